@@ -1,0 +1,194 @@
+-- Laws of the bits of a word: of the operations on words, of the words that stand for a feature and for all products of n features, and how
+-- many there are. A table's rule is one computed test over its 64 bits. Assumes nothing.
+use mathlib.Core.Path.{_≡_, sym, ap, ap₂, _∙_}
+use mathlib.Core.List.{List, [], _∷_}
+use mathlib.Core.Bool.{Bool, true, false, _&&_}
+use Prim.Native.Nat.{ℕ, zero, suc, _+_, _-_, _*_, _/_, _%_, _^_, _<_, _≤_, min, max}
+use native.Mathlib.Omega.{arith}
+use native.Mathlib.Numerals.{add-one}
+use native.Mathlib.Nat.{zero-div, div-eq-of-lt, pow-suc, div-add-mod', mod-lt}
+use borrow.Author.Count.{below-none, below-more}
+use borrow.Author.Tests.{lt-ltb, le-ltb}
+use lib.Bits.{bitAnd, bitOr, bitXor, and-shr, or-shr, xor-shr, and-step, or-step, xor-add-and}
+use lib.Count.{ones, ones-step, ones-le}
+use lib.Dec.{T, eqb, ltb, eqb→eq}
+use lib.ListN.{getD}
+use lib.Pow.{pow-add, pow-mono, pow-pos, shr-shr}
+use Rattle.products.specs.Sets.{bit, oneIf}
+
+-- ---- what the operations on words do to each bit
+
+and-odd : (x y : ℕ) → bitAnd x y % 2 ≡ min (x % 2) (y % 2)
+and-odd x y = omega (arith, and-step x y)
+
+or-odd : (x y : ℕ) → bitOr x y % 2 ≡ max (x % 2) (y % 2)
+or-odd x y = omega (arith, or-step x y)
+
+xor-odd : (x y : ℕ) → bitXor x y % 2 ≡ (x % 2 + y % 2) % 2
+xor-odd x y = omega (arith, xor-add-and x y)
+
+pub bit-and : (x y k : ℕ) → bit (bitAnd x y) k ≡ min (bit x k) (bit y k)
+bit-and x y k = ap (λ (n : ℕ). n % 2) (and-shr x y k) ∙ and-odd (x / 2 ^ k) (y / 2 ^ k)
+
+pub bit-or : (x y k : ℕ) → bit (bitOr x y) k ≡ max (bit x k) (bit y k)
+bit-or x y k = ap (λ (n : ℕ). n % 2) (or-shr x y k) ∙ or-odd (x / 2 ^ k) (y / 2 ^ k)
+
+pub bit-xor : (x y k : ℕ) → bit (bitXor x y) k ≡ (bit x k + bit y k) % 2
+bit-xor x y k = ap (λ (n : ℕ). n % 2) (xor-shr x y k) ∙ xor-odd (x / 2 ^ k) (y / 2 ^ k)
+
+pub bit-without : (x y k : ℕ) → bit (bitXor x (bitAnd x y)) k ≡ bit x k - bit y k
+bit-without x y k = omega (arith, bit-xor x (bitAnd x y) k, bit-and x y k)
+
+pub bit-choice : (x y z k : ℕ) → bit (bitOr (bitAnd x y) (bitXor z (bitAnd z x))) k ≡ max (min (bit x k) (bit y k)) (bit z k - bit x k)
+bit-choice x y z k = bit-or (bitAnd x y) (bitXor z (bitAnd z x)) k ∙ ap₂ max (bit-and x y k) (bit-without z x k)
+
+-- ---- words and their bits
+
+-- bit k + 1 of x is bit k of x / 2
+pub bit-suc : (x k : ℕ) → bit x (suc k) ≡ bit (x / 2) k
+bit-suc x k =
+    let e : 1 + k ≡ suc k = omega arith in
+    let h : x / 2 ^ 1 / 2 ^ k ≡ x / 2 ^ suc k = rw e at (shr-shr x 1 k) in
+    ap (λ (n : ℕ). n % 2) (sym h)
+
+-- words are equal where their bits are
+pub eq-bits : (k x y : ℕ) → x < 2 ^ k → y < 2 ^ k → ((j : ℕ) → j < k → bit x j ≡ bit y j) → x ≡ y
+eq-bits zero x y lx ly h = omega arith
+eq-bits (suc k) x y lx ly h =
+    let z : x / 2 ^ 0 % 2 ≡ y / 2 ^ 0 % 2 = h 0 (omega arith) in
+    let q : x / 2 ≡ y / 2 = eq-bits k (x / 2) (y / 2) (omega (arith, pow-suc 2 k)) (omega (arith, pow-suc 2 k)) (λ j lj. sym (bit-suc x j) ∙ h (suc j) (omega arith) ∙ bit-suc y j) in
+    omega arith
+
+-- no bit of 0 is 1
+pub zero-bit : (k : ℕ) → bit 0 k ≡ 0
+zero-bit k = ap (λ (n : ℕ). n % 2) (zero-div (2 ^ k))
+
+-- ---- tables
+
+-- the test f passes at each number below n
+passes : (ℕ → Bool) → ℕ → Bool
+passes f zero = true
+passes f (suc n) = f n && passes f n
+
+and-left : (a b : Bool) → T (a && b) → T a
+and-left true b t = tt
+and-left false b t = t
+
+and-right : (a b : Bool) → T (a && b) → T b
+and-right true b t = t
+and-right false b t = absurd t
+
+passes-at : (f : ℕ → Bool) (n : ℕ) → T (passes f n) → (k : ℕ) → k < n → T (f k)
+unfolding passes
+passes-at f zero t k lt = below-none (λ k. T (f k)) k lt
+passes-at f (suc n) t k lt =
+    below-more (λ k. T (f k)) n (passes-at f n (and-right (f n) (passes f n) t)) (and-left (f n) (passes f n) t) k (rw add-one lt)
+
+-- a table of n words, whose bits a computed test compares with f, has the bits that f says
+table-bit : (t : List ℕ) (f : ℕ → ℕ → ℕ) (n : ℕ) → T (passes (λ i. passes (λ k. eqb (bit (getD t i 0) k) (f i k)) 64) n)
+    → (i k : ℕ) → i < n → k < 64 → bit (getD t i 0) k ≡ f i k
+table-bit t f n test i k li lk =
+    eqb→eq (bit (getD t i 0) k) (f i k)
+    (passes-at (λ k. eqb (bit (getD t i 0) k) (f i k)) 64 (passes-at (λ i. passes (λ k. eqb (bit (getD t i 0) k) (f i k)) 64) n test i li) k lk)
+
+-- the masks of the code
+abbrev masks : List ℕ
+masks =
+    0xaaaa_aaaa_aaaa_aaaa ∷ 0xcccc_cccc_cccc_cccc ∷ 0xf0f0_f0f0_f0f0_f0f0 ∷ 0xff00_ff00_ff00_ff00 ∷ 0xffff_0000_ffff_0000 ∷ 0xffff_ffff_0000_0000 ∷ []
+
+mask-bit : (i k : ℕ) → i < 6 → k < 64 → bit (getD masks i 0) k ≡ bit k i
+unfolding passes
+mask-bit = table-bit masks (λ i k. bit k i) 6 tt
+
+-- the first words of the code
+abbrev firsts : List ℕ
+firsts = 0x1 ∷ 0x3 ∷ 0xf ∷ 0xff ∷ 0xffff ∷ 0xffff_ffff ∷ []
+
+first-bit : (n k : ℕ) → n < 6 → k < 64 → bit (getD firsts n 0) k ≡ oneIf (ltb k (2 ^ n))
+unfolding passes
+first-bit = table-bit firsts (λ n k. oneIf (ltb k (2 ^ n))) 6 tt
+
+-- every bit of the full word is 1
+pub ones-bit : (k : ℕ) → k < 64 → bit 0xffff_ffff_ffff_ffff k ≡ 1
+unfolding passes
+ones-bit k = table-bit (0xffff_ffff_ffff_ffff ∷ []) (λ i k. 1) 1 tt 0 k (omega arith)
+
+-- ---- word w of a feature's set: one law for each answer
+
+low-bits : (w k i : ℕ) → i < 6 → bit (w * 64 + k) i ≡ bit k i
+low-bits w k =
+    let P : ℕ → Type 0 = λ i. bit (w * 64 + k) i ≡ bit k i in
+    below-more P 5 (below-more P 4 (below-more P 3 (below-more P 2 (below-more P 1 (below-more P 0 (below-none P)
+    (omega arith)) (omega arith)) (omega arith)) (omega arith)) (omega arith)) (omega arith)
+
+high-bits : (w k i : ℕ) → k < 64 → 6 ≤ i → bit (w * 64 + k) i ≡ bit w (i - 6)
+high-bits w k i lk le =
+    let e : 6 + (i - 6) ≡ i = omega arith in
+    let d : (w * 64 + k) / 2 ^ 6 ≡ w = omega arith in
+    let h : bit ((w * 64 + k) / 2 ^ 6) (i - 6) ≡ bit (w * 64 + k) (6 + (i - 6)) = ap (λ (n : ℕ). n % 2) (shr-shr (w * 64 + k) 6 (i - 6)) in
+    sym (rw e at (rw d at h))
+
+module _ (i w : ℕ) where
+  pub mask-feature : i < 6 → (k : ℕ) → k < 64 → bit (getD masks i 0) k ≡ bit (w * 64 + k) i
+  mask-feature li k lk = mask-bit i k li lk ∙ sym (low-bits w k i li)
+
+  pub no-feature : w < 16 → 10 ≤ i → (k : ℕ) → k < 64 → bit 0 k ≡ bit (w * 64 + k) i
+  no-feature lw le k lk =
+      zero-bit k ∙ sym (ap (λ (n : ℕ). n % 2) (div-eq-of-lt {n = w * 64 + k} {m = 2 ^ i} (omega (arith, pow-mono {i = 10} {j = i} le))))
+
+  pub whole-feature : 6 ≤ i → bit w (i - 6) ≡ 1 → (k : ℕ) → k < 64 → bit 0xffff_ffff_ffff_ffff k ≡ bit (w * 64 + k) i
+  whole-feature le e k lk = ones-bit k lk ∙ sym (high-bits w k i lk le ∙ e)
+
+  pub none-feature : 6 ≤ i → (bit w (i - 6) ≡ 1 → ⊥) → (k : ℕ) → k < 64 → bit 0 k ≡ bit (w * 64 + k) i
+  none-feature le ne k lk = omega (arith, zero-bit k, high-bits w k i lk le)
+
+-- ---- word w of all products of n features: one law for each answer
+
+module _ (n w : ℕ) where
+  ones-below : ((k : ℕ) → k < 64 → w * 64 + k < 2 ^ n) → (k : ℕ) → k < 64 → bit 0xffff_ffff_ffff_ffff k ≡ oneIf (ltb (w * 64 + k) (2 ^ n))
+  ones-below lt k lk = rw (lt-ltb (w * 64 + k) (2 ^ n) (lt k lk)) (ones-bit k lk)
+
+  zero-past : 2 ^ n ≤ w * 64 → (k : ℕ) → k < 64 → bit 0 k ≡ oneIf (ltb (w * 64 + k) (2 ^ n))
+  zero-past le k lk = rw (le-ltb (w * 64 + k) (2 ^ n) (omega arith)) (zero-bit k)
+
+  power-words : 6 ≤ n → 2 ^ n ≡ 2 ^ (n - 6) * 64
+  power-words le =
+      let e : n - 6 + 6 ≡ n = omega arith in
+      rw e at (pow-add 2 (n - 6) 6)
+
+  pub all-whole : w < 16 → 10 ≤ n → (k : ℕ) → k < 64 → bit 0xffff_ffff_ffff_ffff k ≡ oneIf (ltb (w * 64 + k) (2 ^ n))
+  all-whole lw le = ones-below (λ k lk. omega (arith, pow-mono {i = 10} {j = n} le))
+
+  pub word-whole : 6 ≤ n → w / 2 ^ (n - 6) ≡ 0 → (k : ℕ) → k < 64 → bit 0xffff_ffff_ffff_ffff k ≡ oneIf (ltb (w * 64 + k) (2 ^ n))
+  word-whole le e =
+      let z : w < 2 ^ (n - 6) = omega (arith, div-add-mod' w (2 ^ (n - 6)), mod-lt w (pow-pos (n - 6)), ap (λ (m : ℕ). m * 2 ^ (n - 6)) e) in
+      ones-below (λ k lk. omega (arith, power-words le))
+
+  pub word-none : 6 ≤ n → (w / 2 ^ (n - 6) ≡ 0 → ⊥) → (k : ℕ) → k < 64 → bit 0 k ≡ oneIf (ltb (w * 64 + k) (2 ^ n))
+  word-none le ne =
+      let z : (w < 2 ^ (n - 6)) → ⊥ = λ lt. ne (div-eq-of-lt lt) in
+      zero-past (omega (arith, power-words le))
+
+  pub word-first : n < 6 → w ≡ 0 → (k : ℕ) → k < 64 → bit (getD firsts n 0) k ≡ oneIf (ltb (w * 64 + k) (2 ^ n))
+  word-first ln e k lk = let d : w * 64 + k ≡ k = omega arith in rw d (first-bit n k ln lk)
+
+  pub word-later : n < 6 → (w ≡ 0 → ⊥) → (k : ℕ) → k < 64 → bit 0 k ≡ oneIf (ltb (w * 64 + k) (2 ^ n))
+  word-later ln ne = zero-past (omega (arith, pow-mono {i = n} {j = 6} (omega arith)))
+
+-- ---- how many bits of a word are 1
+
+-- how many of the lowest k bits of x are 1
+unfoldable pub bits : ℕ → ℕ → ℕ
+bits x zero = 0
+bits x (suc k) = bits x k + bit x k
+
+bits-front : (x k : ℕ) → bits x (suc k) ≡ x % 2 + bits (x / 2) k
+unfolding bits
+bits-front x zero = let e : x / 2 ^ 0 ≡ x = omega arith in omega (arith, ap (λ (n : ℕ). n % 2) e)
+bits-front x (suc k) = omega (arith, bits-front x k, bit-suc x k)
+
+-- what `count_ones` answers is the sum of the bits
+pub ones-bits : (k x : ℕ) → x < 2 ^ k → ones x ≡ bits x k
+unfolding bits
+ones-bits zero x lt = omega (arith, ones-le 0 x lt)
+ones-bits (suc k) x lt = omega (arith, ones-step x, bits-front x k, ones-bits k (x / 2) (omega (arith, pow-suc 2 k)))

@@ -1,0 +1,34 @@
+-- `feature` meets its contract. The loop's invariant: the words so far have the products with feature i. Assumes nothing.
+use Prim.Native.Nat.{_-_}
+use Rattle.products.specs.Sets.{bit}
+use Rattle.products.proofs.Filled.{Filled, filled-has, fill-more}
+use borrow.Author.Needs.{needs}
+use Rattle.products.proofs.feature.Statement.{statement}
+use Rattle.products.proofs.feature.Tie as tie
+
+abbrev Inv-loop : tie.InvT-loop
+Inv-loop i r₀ w₀ r w = Filled (λ p. bit p i) r w
+
+abbrev μ-loop : tie.MeasureT-loop
+μ-loop i r₀ w₀ r w = 16 - w
+
+loop-again : tie.Need-loop-again Inv-loop μ-loop
+loop-again c = fill-more (c .feature-word .result) (c .before .before .loop .inv) (c .before .loop-test .taken) (c .feature-word .ensures)
+
+returns : tie.Need-returns Inv-loop μ-loop
+returns c = filled-has (c .before .loop .inv) (c .loop-test .left)
+
+pub feature-spec : {M : Type 1} → statement M
+feature-spec =
+    tie.close
+    (tie.spec
+    Inv-loop
+    μ-loop
+    (λ c. search needs)
+    (λ c κs. search needs)
+    (λ c. search needs)
+    (λ c. search needs)
+    (λ c. search needs)
+    (λ c. search needs)
+    loop-again
+    returns)

@@ -1,0 +1,199 @@
+// Sets of products, sixteen 64-bit words by value. Product p is bit p % 64 of word p / 64, so a set
+// speaks of all 1,024 products of ten features; `all` gives those of fewer. Nothing here knows of
+// guards, sheets or names.
+ghost use mathlib.Core.Path.{_≡_};
+ghost use mathlib.Core.Bool.{Bool, true, false};
+ghost use Prim.Native.Nat.{ℕ, _+_, _-_, _*_, _<_, _≤_, _^_, min, max};
+ghost use lib.Dec.{eqb, ltb};
+ghost use Rattle.products.specs.Sets.{bit, has, oneIf, In, Finds, countTo};
+
+// A product, or that there is none.
+pub enum Found {
+    At(usize),
+    Nothing,
+}
+
+// The products that a and b both have.
+pub fn both(a: [u64; 16], b: [u64; 16]) -> [u64; 16]
+    ensures { λ r. ⌜ ((p : ℕ) → p < 1024 → has r p ≡ min (has a p) (has b p)) ⌝ }
+{
+    let mut r = [0u64; 16];
+    let mut i = 0;
+    while i < 16 {
+        r[i] = a[i] & b[i];
+        i += 1;
+    }
+    r
+}
+
+// The products that a or b has.
+pub fn either(a: [u64; 16], b: [u64; 16]) -> [u64; 16]
+    ensures { λ r. ⌜ ((p : ℕ) → p < 1024 → has r p ≡ max (has a p) (has b p)) ⌝ }
+{
+    let mut r = [0u64; 16];
+    let mut i = 0;
+    while i < 16 {
+        r[i] = a[i] | b[i];
+        i += 1;
+    }
+    r
+}
+
+// The products that a has and b has not.
+pub fn without(a: [u64; 16], b: [u64; 16]) -> [u64; 16]
+    ensures { λ r. ⌜ ((p : ℕ) → p < 1024 → has r p ≡ has a p - has b p) ⌝ }
+{
+    let mut r = [0u64; 16];
+    let mut i = 0;
+    while i < 16 {
+        r[i] = a[i] ^ (a[i] & b[i]);
+        i += 1;
+    }
+    r
+}
+
+// a where c holds, and b elsewhere.
+pub fn choice(c: [u64; 16], a: [u64; 16], b: [u64; 16]) -> [u64; 16]
+    ensures { λ r. ⌜ ((p : ℕ) → p < 1024 → has r p ≡ max (min (has c p) (has a p)) (has b p - has c p)) ⌝ }
+{
+    let mut r = [0u64; 16];
+    let mut i = 0;
+    while i < 16 {
+        r[i] = (c[i] & a[i]) | (b[i] ^ (b[i] & c[i]));
+        i += 1;
+    }
+    r
+}
+
+const MASKS: [u64; 6] = [
+    0xaaaa_aaaa_aaaa_aaaa,
+    0xcccc_cccc_cccc_cccc,
+    0xf0f0_f0f0_f0f0_f0f0,
+    0xff00_ff00_ff00_ff00,
+    0xffff_0000_ffff_0000,
+    0xffff_ffff_0000_0000,
+];
+
+// Word w of the set of the products that have feature i.
+fn feature_word(i: usize, w: usize) -> u64
+    requires { ⌜ w < 16 ⌝ }
+    ensures { λ r. ⌜ ((k : ℕ) → k < 64 → bit r k ≡ bit (w * 64 + k) i) ⌝ }
+{
+    if i < 6 {
+        return MASKS[i];
+    }
+    if 10 <= i {
+        return 0;
+    }
+    if (w >> (i - 6)) % 2 == 1 {
+        return 0xffff_ffff_ffff_ffff;
+    }
+    0
+}
+
+// The products that have feature i. No product has a feature from 10 on.
+pub fn feature(i: usize) -> [u64; 16]
+    ensures { λ r. ⌜ ((p : ℕ) → p < 1024 → has r p ≡ bit p i) ⌝ }
+{
+    let mut r = [0u64; 16];
+    let mut w = 0;
+    while w < 16 {
+        r[w] = feature_word(i, w);
+        w += 1;
+    }
+    r
+}
+
+const FIRST_WORDS: [u64; 6] = [0x1, 0x3, 0xf, 0xff, 0xffff, 0xffff_ffff];
+
+// Word w of the set of all products of n features.
+fn all_word(n: usize, w: usize) -> u64
+    requires { ⌜ w < 16 ⌝ }
+    ensures { λ r. ⌜ ((k : ℕ) → k < 64 → bit r k ≡ oneIf (ltb (w * 64 + k) (2 ^ n))) ⌝ }
+{
+    if 10 <= n {
+        return 0xffff_ffff_ffff_ffff;
+    }
+    if 6 <= n {
+        if w >> (n - 6) == 0 {
+            return 0xffff_ffff_ffff_ffff;
+        }
+        return 0;
+    }
+    if w == 0 {
+        return FIRST_WORDS[n];
+    }
+    0
+}
+
+// All products of n features. From 10 features on these are all 1,024.
+pub fn all(n: usize) -> [u64; 16]
+    ensures { λ r. ⌜ ((p : ℕ) → p < 1024 → has r p ≡ oneIf (ltb p (2 ^ n))) ⌝ }
+{
+    let mut r = [0u64; 16];
+    let mut w = 0;
+    while w < 16 {
+        r[w] = all_word(n, w);
+        w += 1;
+    }
+    r
+}
+
+// Whether s has product p. No set has a product from 1,024 on.
+pub fn contains(s: [u64; 16], p: usize) -> bool
+    ensures { λ r. ⌜ r ≡ eqb (has s p) 1 ⌝ }
+{
+    if 1024 <= p {
+        return false;
+    }
+    (s[p / 64] >> (p % 64)) % 2 == 1
+}
+
+// Whether a and b have the same products.
+pub fn same(a: [u64; 16], b: [u64; 16]) -> bool
+    ensures { λ r. ⌜ (r ≡ true → a ≡ b) × (r ≡ false → a ≡ b → ⊥) ⌝ }
+{
+    let mut i = 0;
+    while i < 16 {
+        if a[i] != b[i] {
+            return false;
+        }
+        i += 1;
+    }
+    true
+}
+
+// How many products s has.
+pub fn count(s: [u64; 16]) -> usize
+    ensures { λ r. ⌜ r ≡ countTo s 1024 ⌝ }
+{
+    let mut n: usize = 0;
+    let mut i = 0;
+    while i < 16 {
+        n += u64::count_ones(s[i]) as usize;
+        i += 1;
+    }
+    n
+}
+
+// The smallest product that s has. Words that hold none are passed over whole.
+pub fn least(s: [u64; 16]) -> Found
+    ensures { λ r. ⌜ Finds _≤_ (In s) r ⌝ }
+{
+    let mut w = 0;
+    'search: loop {
+        if w == 16 {
+            break 'search Found::Nothing;
+        }
+        if s[w] != 0 {
+            let mut b = 0;
+            while b < 64 {
+                if (s[w] >> b) % 2 == 1 {
+                    break 'search Found::At(w * 64 + b);
+                }
+                b += 1;
+            }
+        }
+        w += 1;
+    }
+}

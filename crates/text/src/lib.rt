@@ -1,0 +1,57 @@
+// Laying bytes and decimal numbers into a lent room at a place. Each function answers the next place
+// and writes only below the room's length: on an empty room a run of calls tells how long a text
+// would be. Nothing here knows what is written.
+ghost use mathlib.Core.Path.{_≡_};
+ghost use mathlib.Core.List.{List, _∷_};
+ghost use Prim.Native.Nat.{ℕ, _+_, _<_};
+ghost use Rattle.text.specs.Text.{Wrote, decimal};
+
+// No room is so long; a place stays here.
+const LIMIT: usize = 0x8000_0000_0000_0000;
+
+// Lays the byte b.
+pub fn put(room: &mut [u8], at: usize, b: u8) -> usize
+    ensures { λ r. ⌜ Wrote (now (room .entry)) at (b ∷ List.[]) (now (room .exit)) r ⌝ }
+{
+    if at < room.len() {
+        room[at] = b;
+    }
+    if at < LIMIT {
+        return at + 1;
+    }
+    at
+}
+
+// Lays all of `bytes`.
+pub fn put_bytes(room: &mut [u8], at: usize, bytes: &[u8]) -> usize
+    ensures { λ r. ⌜ Wrote (now (room .entry)) at (now (bytes .entry)) (now (room .exit)) r ⌝ }
+{
+    let mut next = at;
+    let mut i = 0;
+    while i < bytes.len() {
+        next = put(room, next, bytes[i]);
+        i += 1;
+    }
+    next
+}
+
+// The digit n, below 10, as a byte.
+fn digit(n: usize) -> u8
+    requires { ⌜ n < 10 ⌝ }
+    ensures { λ r. ⌜ r ≡ n + 48 ⌝ }
+{
+    n as u8 + 48
+}
+
+// Lays n in decimal digits, without leading zeros. It calls itself on what stands before the last
+// digit, so at most 20 deep.
+pub fn put_number(room: &mut [u8], at: usize, n: usize) -> usize
+    ensures { λ r. ⌜ Wrote (now (room .entry)) at (decimal n) (now (room .exit)) r ⌝ }
+{
+    let last = digit(n % 10);
+    if n < 10 {
+        return put(room, at, last);
+    }
+    let next = put_number(room, at, n / 10);
+    put(room, next, last)
+}
