@@ -53,16 +53,16 @@ module _ (a b : ℕ) where
     unfolding readState
     two-high m = rw (first, le-leb 48 b (omega arith), lt-leb b 57 m)
 
-  module _ {v : ℕ} (e : v ≡ (a - 48) * 10 + (b - 48)) (l : 48 < a) (h : a ≤ 57) (m : 48 ≤ b) (n : b ≤ 57) where
-    made : readState (a ∷ b ∷ []) ≡ upTo63 v
+  module _ (l : 48 < a) (h : a ≤ 57) (m : 48 ≤ b) (n : b ≤ 57) where
+    made : readState (a ∷ b ∷ []) ≡ upTo63 ((a - 48) * 10 + (b - 48))
     unfolding readState
-    made = rw (first l h, le-leb 48 b m, le-leb b 57 n, e)
+    made = rw (first l h, le-leb 48 b m, le-leb b 57 n)
 
-    pub two-good : v ≤ 63 → Of v ≡ readState (a ∷ b ∷ [])
-    two-good k = sym (made ∙ rw (le-leb v 63 k))
+    pub two-good : {v : ℕ} → v ≡ (a - 48) * 10 + (b - 48) → v ≤ 63 → Of v ≡ readState (a ∷ b ∷ [])
+    two-good e k = rw (e, made, le-leb ((a - 48) * 10 + (b - 48)) 63 (omega arith))
 
-    pub two-large : 63 < v → Bad ≡ readState (a ∷ b ∷ [])
-    two-large k = sym (made ∙ rw (lt-leb v 63 k))
+    pub two-large : 63 < (a - 48) * 10 + (b - 48) → Bad ≡ readState (a ∷ b ∷ [])
+    two-large k = rw (made, lt-leb ((a - 48) * 10 + (b - 48)) 63 k)
 
 -- ---- by length
 

@@ -204,11 +204,7 @@ fn two_digits(a: u8, b: u8) -> Number
         return Number::Bad;
     }
     let v = (wide(a) - 48) * 10 + (wide(b) - 48);
-    if v <= 63 {
-        Number::Of(v)
-    } else {
-        Number::Bad
-    }
+    if v <= 63 { Number::Of(v) } else { Number::Bad }
 }
 
 // Whether l is one field.

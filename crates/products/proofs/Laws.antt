@@ -41,8 +41,8 @@ pub same-members : {a b : List ℕ} → Words a → Words b → ((p : ℕ) → p
 same-members {a} {b} wa wb h =
     ext-getD 0 a b (wa .long ∙ sym (wb .long))
     (λ w lw. let lt : w < 16 = omega (arith, wa .long) in
-      eq-bits 64 (getD a w 0) (getD b w 0) (wa .word w) (wb .word w)
-      (λ k lk. sym (has-at a w k lk) ∙ h (w * 64 + k) (omega arith) ∙ has-at b w k lk))
+    eq-bits 64 (getD a w 0) (getD b w 0) (wa .word w) (wb .word w)
+    (λ k lk. sym (has-at a w k lk) ∙ h (w * 64 + k) (omega arith) ∙ has-at b w k lk))
 
 -- the set `[0; 16]` has no product
 pub empty-has : (p : ℕ) → has (replicate 16 0) p ≡ 0

@@ -8,16 +8,16 @@ use Rattle.fields.proofs.is_name.Statement.{statement}
 use Rattle.fields.proofs.is_name.Tie as tie
 
 returns : tie.Need-returns
-returns c = name-none _ (c .if1 .taken)
+returns c = name-none _ (omega arith)
 
 returns-2 : tie.Need-returns-2
 returns-2 c = name-first (c .before .before .before .before .before .args .s .now) (sym (c .before .is-letter .ensures) ∙ not-true _ (c .if2 .taken))
 
 returns-3 : tie.Need-returns-3
-returns-3 c = name-long _ (c .if3 .taken)
+returns-3 c = name-long _ (omega arith)
 
 returns-4 : tie.Need-returns-4
-returns-4 c = name-good _ (c .all-name-bytes .ensures) (omega arith) (c .before .if3 .left) (sym (c .before .before .before .is-letter .ensures) ∙ not-false _ (c .before .before .if2 .left))
+returns-4 c = name-good _ (c .all-name-bytes .ensures) (omega arith) (omega arith) (sym (c .before .before .before .is-letter .ensures) ∙ not-false _ (c .before .before .if2 .left))
 
 pub is-name-spec : {M : Type 1} → statement M
 is-name-spec =

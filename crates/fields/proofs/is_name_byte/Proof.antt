@@ -17,13 +17,13 @@ returns : tie.Need-returns
 returns c = sym (told (c .before .before .args .b) (c .before .is-letter .ensures) (c .if1 .taken))
 
 returns-2 : tie.Need-returns-2
-returns-2 c = sym (told (c .before .before .before .args .b) (c .before .before .is-letter .ensures) (c .before .if1 .left) ∙ rw (lt-leb 48 _ (c .if2 .taken)) (ne-eqb (c .before .before .before .args .b) 95 (λ e. omega arith)))
+returns-2 c = sym (told (c .before .before .before .args .b) (c .before .before .is-letter .ensures) (c .before .if1 .left) ∙ rw (lt-leb 48 (c .before .before .before .args .b) (omega arith)) (ne-eqb (c .before .before .before .args .b) 95 (λ e. omega arith)))
 
 returns-3 : tie.Need-returns-3
-returns-3 c = sym (told (c .before .before .before .before .args .b) (c .before .before .before .is-letter .ensures) (c .before .before .if1 .left) ∙ rw (le-leb 48 _ (c .before .if2 .left), le-leb _ 57 (c .if3 .taken)))
+returns-3 c = sym (told (c .before .before .before .before .args .b) (c .before .before .before .is-letter .ensures) (c .before .before .if1 .left) ∙ rw (le-leb 48 (c .before .before .before .before .args .b) (omega arith), le-leb (c .before .before .before .before .args .b) 57 (omega arith)))
 
 returns-4 : tie.Need-returns-4
-returns-4 c = sym (told (c .before .before .before .before .args .b) (c .before .before .before .is-letter .ensures) (c .before .before .if1 .left) ∙ rw (le-leb 48 _ (c .before .if2 .left), lt-leb _ 57 (c .if3 .left)))
+returns-4 c = sym (told (c .before .before .before .before .args .b) (c .before .before .before .is-letter .ensures) (c .before .before .if1 .left) ∙ rw (le-leb 48 (c .before .before .before .before .args .b) (omega arith), lt-leb (c .before .before .before .before .args .b) 57 (omega arith)))
 
 pub is-name-byte-spec : {M : Type 1} → statement M
 is-name-byte-spec = tie.close (tie.spec (λ c κs. search needs) returns returns-2 returns-3 returns-4)

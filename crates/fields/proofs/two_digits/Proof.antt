@@ -6,22 +6,22 @@ use Rattle.fields.proofs.two_digits.Statement.{statement}
 use Rattle.fields.proofs.two_digits.Tie as tie
 
 returns : tie.Need-returns
-returns c = two-none _ _ (c .if1 .taken)
+returns c = two-none _ _ (omega arith)
 
 returns-2 : tie.Need-returns-2
-returns-2 c = two-over _ _ (c .if2 .taken)
+returns-2 c = two-over _ _ (omega arith)
 
 returns-3 : tie.Need-returns-3
-returns-3 c = two-low _ _ (c .before .before .if1 .left) (c .before .if2 .left) (c .if3 .taken)
+returns-3 c = two-low _ _ (omega arith) (omega arith) (omega arith)
 
 returns-4 : tie.Need-returns-4
-returns-4 c = two-high _ _ (c .before .before .before .if1 .left) (c .before .before .if2 .left) (c .if4 .taken)
+returns-4 c = two-high _ _ (omega arith) (omega arith) (omega arith)
 
 returns-5 : tie.Need-returns-5
-returns-5 c = two-good _ _ (omega arith) (c .before .before .before .before .before .before .if1 .left) (c .before .before .before .before .before .if2 .left) (c .before .before .before .before .if3 .left) (c .before .before .before .if4 .left) (c .if5 .taken)
+returns-5 c = two-good _ _ (omega arith) (omega arith) (omega arith) (omega arith) (omega arith) (omega arith)
 
 returns-6 : tie.Need-returns-6
-returns-6 c = two-large _ _ (omega arith) (c .before .before .before .before .before .before .if1 .left) (c .before .before .before .before .before .if2 .left) (c .before .before .before .before .if3 .left) (c .before .before .before .if4 .left) (c .if5 .left)
+returns-6 c = two-large _ _ (omega arith) (omega arith) (omega arith) (omega arith) (omega arith)
 
 pub two-digits-spec : {M : Type 1} → statement M
 two-digits-spec =

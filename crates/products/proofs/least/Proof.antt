@@ -30,9 +30,10 @@ loop-again : tie.Need-loop-again Inv-loop μ-loop Inv-search μ-search
 loop-again c = (search needs, search needs, passed-bit (c .before .before .loop .inv .2) (c .before .loop-test .taken) (c .if3 .left))
 
 search-again : tie.Need-search-again Inv-loop μ-loop Inv-search μ-search
-search-again c =
-    (search needs,
-    ⊎-elim (λ x. passed-bits (x .1 .inv .2) (x .2 .left)) (λ x. passed-word (c .before .before .search .inv .1) (x .left)) (c .if2 .came))
+search-again c = (
+  search needs,
+  ⊎-elim (λ x. passed-bits (x .1 .inv .2) (x .2 .left)) (λ x. passed-word (c .before .before .search .inv .1) (x .left)) (c .if2 .came),
+)
 
 returns : tie.Need-returns Inv-loop μ-loop Inv-search μ-search
 returns c = least-none (c .before .search .inv .1) (c .if1 .taken)

@@ -18,9 +18,10 @@ abbrev μ-loop : tie.MeasureT-loop
 μ-loop a b i₀ i = 16 - i
 
 returns : tie.Need-returns Inv-loop μ-loop
-returns c =
-    (λ e. let z : _≡_ {A = ℕ} 0 1 = cc in absurd (omega arith),
-    λ e f. c .if1 .taken (ap (λ (l : List ℕ). getD l (c .before .before .loop .i) 0) f))
+returns c = (
+  λ e. let z : _≡_ {A = ℕ} 0 1 = cc in absurd (omega arith),
+  λ e f. c .if1 .taken (ap (λ (l : List ℕ). getD l (c .before .before .loop .i) 0) f),
+)
 
 loop-again : tie.Need-loop-again Inv-loop μ-loop
 loop-again c = (search needs, below-more _ _ (c .before .before .loop .inv .1) (c .if1 .left))
@@ -28,9 +29,10 @@ loop-again c = (search needs, below-more _ _ (c .before .before .loop .inv .1) (
 returns-2 : tie.Need-returns-2 Inv-loop μ-loop
 returns-2 c =
     let la : length (c .before .before .args .t1) ≡ 16 = search needs in
-    let lb : length (c .before .before .args .t2) ≡ 16 = search needs in
-    (λ e. ext-getD 0 _ _ (omega arith) (λ k lk. c .before .loop .inv .1 k (omega arith)),
-    λ e f. let z : _≡_ {A = ℕ} 0 1 = cc in omega arith)
+    let lb : length (c .before .before .args .t2) ≡ 16 = search needs in (
+      λ e. ext-getD 0 _ _ (omega arith) (λ k lk. c .before .loop .inv .1 k (omega arith)),
+      λ e f. let z : _≡_ {A = ℕ} 0 1 = cc in omega arith,
+    )
 
 pub same-spec : {M : Type 1} → statement M
 same-spec =

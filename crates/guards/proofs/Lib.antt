@@ -1,0 +1,9 @@
+pub mod Meanings
+pub mod Finding
+pub mod Names
+pub mod RoundTrip
+pub mod Exactly
+pub mod Steps
+pub mod Returns
+pub mod Laws
+pub mod Determined

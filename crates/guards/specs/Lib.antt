@@ -1,0 +1,2 @@
+pub mod Guard
+pub mod Reading

@@ -1,0 +1,289 @@
+// Reading a guard: its bytes to the set of products in which it holds, or a refusal with the place of
+// the leftmost faulty byte. The guard reader and the chain reader call each other; the parts of one
+// chain go in a loop, so that calls are never nested deeper than the guard is.
+ghost use mathlib.Core.Path.{_≡_};
+ghost use Prim.Native.Nat.{ℕ, _+_, _≤_, _<_, min};
+ghost use lib.ListN.{length, drop, getD, replicate};
+ghost use mathlib.Core.List.{List};
+ghost use Rattle.fields.specs.Bytes.{part};
+ghost use Rattle.guards.specs.Guard.{Guard, Operator, Parts, byteOf, Means, PartsMean};
+ghost use Rattle.guards.specs.Reading.{number, namesOf, parts, otherwise, opened, Inside, readGuard, readWhole, Reads};
+use products::Found;
+
+// How far a guard was read, or the refusal with the place of the faulty byte.
+pub enum GuardRead {
+    Upto(usize),
+    Refused { number: u8, at: usize },
+}
+
+// The set of products in which the guard holds stands beside; on a refusal it is empty.
+pub struct GuardAnswer {
+    pub read: GuardRead,
+    pub set: [u64; 16],
+}
+
+const MOST_NESTING: usize = 32;
+
+// The guard that the whole of `field` spells. The features' names are places in `text`, in the first
+// `count` rows of `names`; a count above ten is taken for ten.
+pub fn read_whole(text: &[u8], names: &[[usize; 2]; 10], count: usize, field: &[u8]) -> GuardAnswer
+    ensures { λ r. ⌜ Reads (now (field .entry)) 0 (r .read) (r .set) (readWhole (namesOf (now (text .entry)) (now (names .entry)) (min count 10)) (now (field .entry))) ⌝ }
+{
+    let a = read_guard(text, names, count, field, 0, MOST_NESTING);
+    let r = a.read;
+    let GuardRead::Upto(next) = r else {
+        return a;
+    };
+    if next < field.len() {
+        return refuse(5, next);
+    }
+    a
+}
+
+// The number of the feature that `name` names; the features' names are as in `read_whole`.
+pub fn find_name(text: &[u8], names: &[[usize; 2]; 10], count: usize, name: &[u8]) -> Found
+    ensures { λ r. ⌜ r ≡ number (namesOf (now (text .entry)) (now (names .entry)) (min count 10)) (now (name .entry)) ⌝ }
+{
+    let mut i = at_most_ten(count);
+    while 0 < i {
+        i -= 1;
+        let row = names[i];
+        let from = row[0];
+        let upto = row[1];
+        if fields::same_bytes(fields::piece(text, from, upto), name) {
+            return Found::At(i);
+        }
+    }
+    Found::Nothing
+}
+
+fn at_most_ten(count: usize) -> usize
+    ensures { λ r. ⌜ r ≡ min count 10 ⌝ }
+{
+    if 10 < count {
+        return 10;
+    }
+    count
+}
+
+fn refuse(number: u8, at: usize) -> GuardAnswer
+    ensures { λ r. ⌜ (r .read ≡ GuardRead.Refused number at) × (r .set ≡ replicate 16 0) ⌝ }
+{
+    GuardAnswer {
+        read: GuardRead::Refused { number, at },
+        set: [0u64; 16],
+    }
+}
+
+fn take_to(next: usize, set: [u64; 16]) -> GuardAnswer
+    ensures { λ r. ⌜ (r .read ≡ GuardRead.Upto next) × (r .set ≡ set) ⌝ }
+{
+    GuardAnswer {
+        read: GuardRead::Upto(next),
+        set: set,
+    }
+}
+
+// The guard that begins at `at`, where `left` more may be nested.
+fn read_guard(
+    text: &[u8],
+    names: &[[usize; 2]; 10],
+    count: usize,
+    field: &[u8],
+    at: usize,
+    left: usize,
+) -> GuardAnswer
+    requires { ⌜ at ≤ length (now field) ⌝ }
+    ensures { λ r. ⌜ Reads (now (field .entry)) at (r .read) (r .set) (readGuard (namesOf (now (text .entry)) (now (names .entry)) (min count 10)) left (drop at (now (field .entry)))) ⌝ }
+{
+    if at == field.len() {
+        return refuse(5, at);
+    }
+    let b = field[at];
+    if b == b'0' {
+        return take_to(at + 1, set_never());
+    }
+    if b == b'1' {
+        return take_to(at + 1, set_always());
+    }
+    if b == b'!' {
+        if left == 0 {
+            return refuse(7, at);
+        }
+        let a = read_guard(text, names, count, field, at + 1, left - 1);
+        let r = a.read;
+        let GuardRead::Upto(next) = r else {
+            return a;
+        };
+        let denied = a.set;
+        return take_to(next, set_not(denied));
+    }
+    if b == b'(' {
+        if left == 0 {
+            return refuse(7, at);
+        }
+        return read_open(text, names, count, field, at + 1, left - 1);
+    }
+    if !fields::is_letter(b) {
+        return refuse(5, at);
+    }
+    let e = fields::run_end(field, at);
+    let f = find_name(text, names, count, &field[at..e]);
+    let Found::At(i) = f else {
+        return refuse(6, at);
+    };
+    take_to(e, set_feature(i))
+}
+
+// What stands behind an opened bracket: a choice or a chain, by what follows its first guard.
+fn read_open(
+    text: &[u8],
+    names: &[[usize; 2]; 10],
+    count: usize,
+    field: &[u8],
+    at: usize,
+    left: usize,
+) -> GuardAnswer
+    requires { ⌜ at ≤ length (now field) ⌝ }
+    ensures { λ r. ⌜ Reads (now (field .entry)) at (r .read) (r .set) (opened (Inside.inside (readGuard (namesOf (now (text .entry)) (now (names .entry)) (min count 10)) left)) List.[] (drop at (now (field .entry)))) ⌝ }
+{
+    let a = read_guard(text, names, count, field, at, left);
+    let r = a.read;
+    let GuardRead::Upto(next) = r else {
+        return a;
+    };
+    if next == field.len() {
+        return refuse(5, next);
+    }
+    let first = a.set;
+    let op = field[next];
+    if op == b'?' {
+        return read_choice(text, names, count, field, next + 1, left, first);
+    }
+    if op == b'&' {
+        return read_chain(text, names, count, field, next + 1, left, op, first);
+    }
+    if op == b'|' {
+        return read_chain(text, names, count, field, next + 1, left, op, first);
+    }
+    refuse(5, next)
+}
+
+// The two guards of a choice, whose condition holds in the set `condition`.
+fn read_choice(
+    text: &[u8],
+    names: &[[usize; 2]; 10],
+    count: usize,
+    field: &[u8],
+    at: usize,
+    left: usize,
+    condition: [u64; 16],
+) -> GuardAnswer
+    requires { ⌜ at ≤ length (now field) ⌝ }
+    ensures { λ r. ⌜ ((c : Guard) → Means condition c → Reads (now (field .entry)) at (r .read) (r .set) (otherwise (readGuard (namesOf (now (text .entry)) (now (names .entry)) (min count 10)) left) c (readGuard (namesOf (now (text .entry)) (now (names .entry)) (min count 10)) left (drop at (now (field .entry)))))) ⌝ }
+{
+    let a = read_guard(text, names, count, field, at, left);
+    let r = a.read;
+    let GuardRead::Upto(colon) = r else {
+        return a;
+    };
+    if colon == field.len() {
+        return refuse(5, colon);
+    }
+    if field[colon] != b':' {
+        return refuse(5, colon);
+    }
+    let there = a.set;
+    let b = read_guard(text, names, count, field, colon + 1, left);
+    let q = b.read;
+    let GuardRead::Upto(end) = q else {
+        return b;
+    };
+    if end == field.len() {
+        return refuse(5, end);
+    }
+    if field[end] != b')' {
+        return refuse(5, end);
+    }
+    let elsewhere = b.set;
+    take_to(end + 1, set_choice(condition, there, elsewhere))
+}
+
+// The parts of a chain behind the operator `op`, whose first part holds in the set `first`.
+fn read_chain(
+    text: &[u8],
+    names: &[[usize; 2]; 10],
+    count: usize,
+    field: &[u8],
+    from: usize,
+    left: usize,
+    op: u8,
+    first: [u64; 16],
+) -> GuardAnswer
+    requires { ⌜ from ≤ length (now field) ⌝ }
+    ensures { λ r. ⌜ ((o : Operator) (ps : Parts) → op ≡ byteOf o → PartsMean first o ps → Reads (now (field .entry)) from (r .read) (r .set) (parts (readGuard (namesOf (now (text .entry)) (now (names .entry)) (min count 10)) left) (length (drop from (now (field .entry)))) o ps (drop from (now (field .entry))))) ⌝ }
+{
+    let mut at = from;
+    let mut set = first;
+    loop {
+        let a = read_guard(text, names, count, field, at, left);
+        let r = a.read;
+        let GuardRead::Upto(next) = r else {
+            return a;
+        };
+        if next == field.len() {
+            return refuse(5, next);
+        }
+        let b = field[next];
+        let part = a.set;
+        let joined = set_joined(op, set, part);
+        set = joined;
+        if b == b')' {
+            return take_to(next + 1, set);
+        }
+        if b != op {
+            return refuse(5, next);
+        }
+        at = next + 1;
+    }
+}
+
+fn set_never() -> [u64; 16]
+    ensures { λ r. ⌜ Means r Guard.never ⌝ }
+{
+    [0u64; 16]
+}
+
+fn set_always() -> [u64; 16]
+    ensures { λ r. ⌜ Means r Guard.always ⌝ }
+{
+    [0xffff_ffff_ffff_ffffu64; 16]
+}
+
+fn set_feature(i: usize) -> [u64; 16]
+    ensures { λ r. ⌜ Means r (Guard.feature i) ⌝ }
+{
+    products::feature(i)
+}
+
+fn set_not(a: [u64; 16]) -> [u64; 16]
+    ensures { λ r. ⌜ ((g : Guard) → Means a g → Means r (Guard.neg g)) ⌝ }
+{
+    products::without(set_always(), a)
+}
+
+fn set_choice(c: [u64; 16], a: [u64; 16], b: [u64; 16]) -> [u64; 16]
+    ensures { λ r. ⌜ ((k g h : Guard) → Means c k → Means a g → Means b h → Means r (Guard.choice k g h)) ⌝ }
+{
+    products::choice(c, a, b)
+}
+
+// The sets of two parts of a chain with the operator `op`.
+fn set_joined(op: u8, a: [u64; 16], b: [u64; 16]) -> [u64; 16]
+    ensures { λ r. ⌜ ((o : Operator) (ps : Parts) (g : Guard) → op ≡ byteOf o → PartsMean a o ps → Means b g → PartsMean r o (Parts.more ps g)) ⌝ }
+{
+    if op == b'&' {
+        return products::both(a, b);
+    }
+    products::either(a, b)
+}

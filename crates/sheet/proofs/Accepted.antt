@@ -1,0 +1,270 @@
+-- What reading tells of a sheet: it is kept, and then it is as `Accepted` says, or it is refused by a number of the table. Each line keeps the
+-- limits, and no move or stop stands before the last feature; so the numbers of features in guards stay declared. Assumes nothing.
+use mathlib.Core.Path.{_≡_, refl}
+use mathlib.Core.Bool.{Bool, true, false, not, _&&_, and-eq-true-iff}
+use mathlib.Core.List.{List, [], _∷_}
+use Prim.Native.Nat.{ℕ, zero, suc, _+_, _^_, _≤_, _<_}
+use native.Mathlib.Omega.{arith}
+use borrow.Author.Tests.{eqb-true, leb-true, leb-false, le-leb, ltb-true, not-false}
+use lib.Dec.{eqb, leb, ltb}
+use lib.ListN.{length}
+use lib.Pow.{pow-mono}
+use Rattle.text.specs.Text.{decimal}
+use Rattle.products.specs.declared.Found.{Found}
+use Rattle.products.specs.declared.Found.the-variants.{At, Nothing}
+use Rattle.fields.specs.declared.Number.{Number}
+use Rattle.fields.specs.declared.Number.the-variants.{Of, Bad}
+use Rattle.fields.specs.Bytes.{sameBytes, isName, isAction, readState}
+use Rattle.fields.specs.Cutting.{lines, fields, One, only, notOne, Two, two, notTwo, Four, four, notFour, asOne, asTwo, asFour}
+use Rattle.fields.proofs.States.{state-small, state-written}
+use Rattle.guards.specs.Guard.{Guard, never, holds, print, Declared, nesting}
+use Rattle.guards.specs.Reading.{Outcome, took, faulty, number, readWhole, GoodNames}
+use Rattle.guards.proofs.Names.{by-test}
+use Rattle.guards.proofs.Exactly.{whole-exactly, whole-faulty}
+use Rattle.sheet.specs.declared.LineKind.{LineKind}
+use Rattle.sheet.specs.Sheet.{Feature, Sheet, names, isValid}
+use Rattle.sheet.specs.Reading.{State, Answer, kept, refused, refuseIf, stated, guarded, goOn, isKnown, moved, stopped, ftsWord, featureWord, validWord, startWord, moveWord, stopWord, editionWord, ftsLine, featureLine, validLine, startLine, guardedMove, moveLine, stopLine, kindIn, byKind, byWord, readLine, none, ended, readLines, nothing, last, readSheet}
+use Rattle.sheet.specs.Accepted.{GoodGuard, GoodMoves, GoodStops, Accepted}
+use Rattle.sheet.proofs.Rows.{names-length}
+
+-- a number of the table of refusals
+abbrev InTable : ℕ → Type 0
+InTable e = (leb 1 e && leb e 10) ≡ true
+
+-- an answer that is refused by a number of the table, or kept with the property P
+pub data Told {A : Type 0} (P : A → Type 0) : Answer A → Type 0 where
+  keeps : {x : A} → P x → Told P (kept x)
+  refuses : (e n : ℕ) → InTable e → Told P (refused e n)
+
+pub told-kept : {A : Type 0} {P : A → Type 0} {a : Answer A} {x : A} → Told P a → a ≡ kept x → P x
+told-kept {x = x} (keeps {x = y} p) e = let z : y ≡ x = cc in rw z at p
+told-kept (refuses d n h) e = let z : _≡_ {A = ℕ} 0 1 = cc in absurd (omega arith)
+
+pub told-refused : {A : Type 0} {P : A → Type 0} {a : Answer A} {e n : ℕ} → Told P a → a ≡ refused e n → (1 ≤ e) × (e ≤ 10)
+told-refused (keeps p) q = let z : _≡_ {A = ℕ} 0 1 = cc in absurd (omega arith)
+told-refused {e = e} (refuses d n h) q =
+    let z : d ≡ e = cc in
+    let k = and-eq-true-iff (leb 1 e) (leb e 10) .0 (rw z at h) in
+    (leb-true 1 e (k .0), leb-true e 10 (k .1))
+
+-- ---- what each test tells
+
+pub told-if : {A : Type 0} {P : A → Type 0} {a : Answer A} (e n : ℕ) (t : Bool) → InTable e → (t ≡ false → Told P a) → Told P (refuseIf t e n a)
+told-if e n true h f = refuses e n h
+told-if e n false h f = f refl
+
+pub told-state : {P : State → Type 0} {k : ℕ → Answer State} (n : ℕ) (x : List ℕ) → ((q : ℕ) → q ≤ 63 → x ≡ decimal q → Told P (k q)) → Told P (stated n (readState x) k)
+told-state {P} {k} n x f = go (readState x) refl
+  where
+    go : (o : Number) → readState x ≡ o → Told P (stated n o k)
+    go Bad e = refuses 4 n refl
+    go (Of q) e = f q (state-small x e) (state-written x e)
+
+pub told-guard : {P : State → Type 0} {k : Guard → Answer State} (n : ℕ) (fs : List Feature) (x : List ℕ) → ((g : Guard) → GoodGuard (length fs) g → x ≡ print g (names fs) [] → Told P (k g))
+    → Told P (guarded n (readWhole (names fs) x) k)
+told-guard {P} {k} n fs x f = go (readWhole (names fs) x) refl
+  where
+    go : (o : Outcome) → readWhole (names fs) x ≡ o → Told P (guarded n o k)
+    go (faulty e bs) q = let h = whole-faulty (names fs) x q in refuses e n (rw (le-leb 1 e (omega (arith, h .0)), le-leb e 10 (omega (arith, h .1))))
+    go (took g rest) q =
+        let h = whole-exactly (names fs) x q in
+        f g (record { declared = rw (names-length fs) at (h .2); nested = h .3 }) (h .1)
+
+-- ---- what the lines so far keep
+
+pub record Limits (s : Sheet) : Type 0 where
+  pub few-features : length (s .features) ≤ 10
+  pub names : GoodNames (names (s .features))
+  pub valid : GoodGuard (length (s .features)) (s .valid)
+  pub start : s .start ≤ 63
+  pub few-moves : length (s .moves) ≤ 256
+  pub moves : GoodMoves (length (s .features)) (s .moves)
+  pub stops : GoodStops (length (s .features)) (s .stops)
+
+pub record Sound (st : State) : Type 0 where
+  pub early : st .section ≤ 1 → (st .sheet .valid ≡ never) × (st .sheet .moves ≡ []) × (st .sheet .stops ≡ [])
+  pub limits : Limits (st .sheet)
+
+never-good : (n : ℕ) → GoodGuard n never
+unfolding Declared nesting
+never-good n = record { declared = tt; nested = omega arith }
+
+not-known : (f : Found) → isKnown f ≡ false → f ≡ Nothing
+not-known (At i) e = let z : _≡_ {A = ℕ} 0 1 = cc in absurd (omega arith)
+not-known Nothing e = refl
+
+module _ (n at : ℕ) (st : State) (sound : Sound st) where
+  fts-told : st .section ≤ 1 → (x : One) → Told Sound (ftsLine n st x)
+  unfolding ftsLine
+  fts-told h notOne = refuses 3 n refl
+  fts-told h (only x) = told-if 3 n (not (sameBytes x editionWord)) refl (λ t. keeps (record { early = λ l. sound .early h; limits = sound .limits }))
+
+  feature-told : st .section ≤ 1 → (x : One) → Told Sound (featureLine n at st x)
+  unfolding featureLine names
+  feature-told h notOne = refuses 3 n refl
+  feature-told h (only x) =
+      let e = sound .early h in
+      let l = sound .limits in
+      told-if 8 n (leb 10 (length (st .sheet .features))) refl
+      (λ few. told-if 4 n (not (isName x)) refl
+      (λ good. told-if 9 n (isKnown (number (names (st .sheet .features)) x)) refl
+      (λ new. keeps (record {
+        early = λ u. e;
+        limits = record {
+          few-features = leb-false 10 (length (st .sheet .features)) few;
+          names = (not-false (isName x) good, not-known (number (names (st .sheet .features)) x) new, l .names);
+          valid = rw (e .0) (never-good (suc (length (st .sheet .features))));
+          start = l .start;
+          few-moves = l .few-moves;
+          moves = rw (e .1) tt;
+          stops = rw (e .2) tt;
+        };
+      }))))
+
+  valid-told : (x : One) → Told Sound (validLine n st x)
+  unfolding validLine
+  valid-told notOne = refuses 3 n refl
+  valid-told (only x) =
+      let l = sound .limits in
+      told-guard n (st .sheet .features) x
+      (λ g good text. keeps (record {
+        early = λ u. absurd (omega arith);
+        limits = record { few-features = l .few-features; names = l .names; valid = good; start = l .start; few-moves = l .few-moves; moves = l .moves; stops = l .stops };
+      }))
+
+  start-told : (x : One) → Told Sound (startLine n st x)
+  unfolding startLine
+  start-told notOne = refuses 3 n refl
+  start-told (only x) =
+      let l = sound .limits in
+      told-state n x
+      (λ q small text. keeps (record {
+        early = λ u. absurd (omega arith);
+        limits = record { few-features = l .few-features; names = l .names; valid = l .valid; start = small; few-moves = l .few-moves; moves = l .moves; stops = l .stops };
+      }))
+
+  move-told : (x : Four) → Told Sound (moveLine n at st x)
+  unfolding moveLine guardedMove
+  move-told notFour = refuses 3 n refl
+  move-told (four f a t g) =
+      let l = sound .limits in
+      told-if 8 n (leb 256 (length (st .sheet .moves))) refl
+      (λ few. told-state n f
+      (λ from lf ef. told-if 4 n (not (isAction a)) refl
+      (λ act. told-state n t
+      (λ to lt et. told-guard n (st .sheet .features) g
+      (λ guard good eg. told-if 9 n (moved from a to (st .sheet .moves)) refl
+      (λ new. keeps (record {
+        early = λ u. absurd (omega arith);
+        limits = record {
+          few-features = l .few-features;
+          names = l .names;
+          valid = l .valid;
+          start = l .start;
+          few-moves = leb-false 256 (length (st .sheet .moves)) few;
+          moves = (record { from = lf; action = not-false (isAction a) act; to = lt; guard = good }, new, l .moves);
+          stops = l .stops;
+        };
+      })))))))
+
+  stop-told : (x : Two) → Told Sound (stopLine n st x)
+  unfolding stopLine
+  stop-told notTwo = refuses 3 n refl
+  stop-told (two q g) =
+      let l = sound .limits in
+      told-state n q
+      (λ state small es. told-guard n (st .sheet .features) g
+      (λ guard good eg. told-if 9 n (stopped state (st .sheet .stops)) refl
+      (λ new. keeps (record {
+        early = λ u. absurd (omega arith);
+        limits = record {
+          few-features = l .few-features;
+          names = l .names;
+          valid = l .valid;
+          start = l .start;
+          few-moves = l .few-moves;
+          moves = l .moves;
+          stops = (record { state = small; guard = good }, new, l .stops);
+        };
+      }))))
+
+  section-is : (k : ℕ) (t : Bool) → (eqb (st .section) k && t) ≡ true → st .section ≡ k
+  section-is k t e = eqb-true (st .section) k (and-eq-true-iff (eqb (st .section) k) t .0 e .0)
+
+  kind-told : (w : List ℕ) (fs : List (List ℕ)) → Told Sound (byKind (kindIn (st .section) w) n at st fs)
+  kind-told w fs =
+      let P : LineKind → Type 0 = λ k. Told Sound (byKind k n at st fs) in
+      by-test P (eqb (st .section) 0 && sameBytes w ftsWord) (λ e. let z = section-is 0 (sameBytes w ftsWord) e in fts-told (omega arith) (asOne fs))
+      (λ x. by-test P (eqb (st .section) 1 && sameBytes w featureWord) (λ e. let z = section-is 1 (sameBytes w featureWord) e in feature-told (omega arith) (asOne fs))
+      (λ x. by-test P (eqb (st .section) 1 && sameBytes w validWord) (λ e. valid-told (asOne fs))
+      (λ x. by-test P (eqb (st .section) 2 && sameBytes w startWord) (λ e. start-told (asOne fs))
+      (λ x. by-test P (leb 3 (st .section) && sameBytes w stopWord) (λ e. stop-told (asTwo fs))
+      (λ x. by-test P (eqb (st .section) 3 && sameBytes w moveWord) (λ e. move-told (asFour fs)) (λ x. refuses 3 n refl))))))
+
+word-told : (n at : ℕ) (st : State) → Sound st → (fs : List (List ℕ)) → Told Sound (byWord n at st fs)
+word-told n at st sound [] = refuses 3 n refl
+word-told n at st sound (w ∷ fs) = kind-told n (at + length w + 1) st sound w fs
+
+-- ---- all lines, and the end
+
+pub told-on : {P : State → Type 0} {Q : Sheet → Type 0} {a : Answer State} {k : State → Answer Sheet} → Told P a → ((st : State) → P st → Told Q (k st)) → Told Q (goOn a k)
+told-on (keeps {x = st} p) f = f st p
+told-on (refuses e n h) f = refuses e n h
+
+some : (t : ℕ → Bool) (n : ℕ) → none t n ≡ false → (p : ℕ) × (t p ≡ true)
+unfolding none
+some t zero e = let z : _≡_ {A = ℕ} 0 1 = cc in absurd (omega arith)
+some t (suc n) e = go (t n) refl e (some t n)
+  where
+    go : (b : Bool) → t n ≡ b → (not b && none t n) ≡ false → (none t n ≡ false → (p : ℕ) × (t p ≡ true)) → (p : ℕ) × (t p ≡ true)
+    go true h q below = (n, h)
+    go false h q below = below q
+
+ended-told : (n : ℕ) (st : State) → Sound st → Told Accepted (ended n st)
+unfolding ended
+ended-told n st sound =
+    let l = sound .limits in
+    told-if 3 n (ltb (st .section) 3) refl
+    (λ t. told-if 10 (st .validLine) (none (isValid (st .sheet)) (2 ^ length (st .sheet .features))) refl
+    (λ found. keeps (record {
+      few-features = l .few-features;
+      names = l .names;
+      valid = l .valid;
+      start = l .start;
+      few-moves = l .few-moves;
+      moves = l .moves;
+      stops = l .stops;
+      allowed = some (isValid (st .sheet)) (2 ^ length (st .sheet .features)) found;
+    })))
+
+lines-told : (ls : List (List ℕ)) (n at : ℕ) (st : State) → Sound st → Told Accepted (readLines n at st ls)
+unfolding readLines readLine
+lines-told [] n at st sound = ended-told n st sound
+lines-told (l ∷ ls) n at st sound = told-on (word-told n at st sound (fields l)) (λ u. lines-told ls (n + 1) (at + length l + 1) u)
+
+sheet-told : (s : List ℕ) → Told Accepted (readSheet s)
+unfolding readSheet names
+sheet-told s =
+    told-if 1 0 (ltb 65536 (length s)) refl
+    (λ few. told-if 2 0 (not (eqb (last 0 s) 10)) refl
+    (λ ends. lines-told (lines s) 1 0 nothing
+    (record {
+      early = λ u. (refl, refl, refl);
+      limits = record { few-features = omega arith; names = tt; valid = never-good 0; start = omega arith; few-moves = omega arith; moves = tt; stops = tt };
+    })))
+
+-- what is kept is within the limits, without repeats, and has a valid product
+pub accepted : (s : List ℕ) {r : Sheet} → readSheet s ≡ kept r → Accepted r
+accepted s e = told-kept (sheet-told s) e
+
+-- refusals have the numbers of the table
+pub refused-number : (s : List ℕ) {e n : ℕ} → readSheet s ≡ refused e n → (1 ≤ e) × (e ≤ 10)
+refused-number s q = told-refused (sheet-told s) q
+
+-- a valid product of such a sheet is a product of its features, and so below 1,024
+pub valid-small : {r : Sheet} {p : ℕ} → Accepted r → isValid r p ≡ true → (p < 2 ^ length (r .features)) × (holds (r .valid) p ≡ true) × (p < 1024)
+valid-small {r} {p} ok e =
+    let k = and-eq-true-iff (ltb p (2 ^ length (r .features))) (holds (r .valid) p) .0 e in
+    let small = ltb-true p (2 ^ length (r .features)) (k .0) in
+    let most : 2 ^ length (r .features) ≤ 1024 = pow-mono (ok .few-features) in
+    (small, k .1, omega arith)

@@ -1,0 +1,12 @@
+pub mod Rows
+pub mod LineKinds
+pub mod Apart
+pub mod Lines
+pub mod Accepted
+pub mod Determined
+pub mod Written
+pub mod ReadBack
+pub mod Looking
+pub mod Spelled
+pub mod Moves
+pub mod Whole

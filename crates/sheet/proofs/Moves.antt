@@ -1,0 +1,280 @@
+-- The line readers that fill a table: moves and stops. One law for each return; a kept line puts one row into each of its two tables.
+-- Assumes nothing.
+use mathlib.Core.Path.{_≡_, refl, sym, ap, subst, _∙_}
+use mathlib.Core.Bool.{Bool, true, false, not}
+use mathlib.Core.List.{List, [], _∷_}
+use Prim.Native.Nat.{ℕ, zero, suc, _+_, _-_, _≤_, _<_, min}
+use native.Mathlib.Omega.{arith}
+use borrow.Author.Tests.{not-true, not-false, le-leb, lt-leb}
+use lib.Dec.{leb}
+use lib.ListN.{length, getD, set}
+use Rattle.products.specs.Sets.{oneIf}
+use Rattle.fields.specs.declared.Number.{Number}
+use Rattle.fields.specs.declared.Number.the-variants.{Of, Bad}
+use Rattle.fields.specs.declared.TwoFields.{TwoFields}
+use Rattle.fields.specs.declared.TwoFields.the-variants.{Parted, NotTwo}
+use Rattle.fields.specs.declared.FourFields.{FourFields}
+use Rattle.fields.specs.declared.FourFields.the-variants.{Ends, NotFour}
+use Rattle.fields.specs.Bytes.{part, sameBytes, isAction, readState}
+use Rattle.fields.specs.Cutting.{fields, Two, two, notTwo, Four, four, notFour, asTwo, asFour, CutsTwo, CutsFour}
+use Rattle.fields.proofs.Parts.{part-length, part-part}
+use Rattle.fields.proofs.Same.{same-true, same-false}
+use Rattle.fields.proofs.States.{state-small}
+use Rattle.guards.specs.declared.GuardRead.{GuardRead}
+use Rattle.guards.specs.declared.GuardRead.the-variants as guard
+use Rattle.guards.specs.Guard.{Guard, never, always, feature, neg, chain, choice, Means}
+use Rattle.guards.specs.Reading.{Outcome, took, namesOf, readWhole, Reads}
+use Rattle.guards.proofs.Laws.{plain-yes, plain-no}
+use Rattle.sheet.specs.declared.Progress.{Progress}
+use Rattle.sheet.specs.declared.LineRead.{LineRead}
+use Rattle.sheet.specs.declared.LineRead.the-variants.{Kept, Refused}
+use Rattle.sheet.specs.Sheet.{Move, Stop, names}
+use Rattle.sheet.specs.Reading.{State, Answer, kept, refused, refuseIf, stated, guarded, moved, stopped, keep, withMove, withStop, guardedMove, moveLine, stopLine}
+use Rattle.sheet.specs.Tables.{Tables, tables, Lies, Rows, plainOf, MoveRow, StopRow, Stands, Says}
+use Rattle.sheet.proofs.Rows.{rows-length, table-put}
+use Rattle.sheet.proofs.Apart.{stops-fit}
+use Rattle.sheet.proofs.Lines.{refuses, keeps, names-stand, guard-refused, guard-taken}
+
+-- ---- a guard written `1`
+
+not-plain : (g : Guard) → (g ≡ always → ⊥) → 0 ≡ plainOf g
+not-plain never h = refl
+not-plain always h = absurd (h refl)
+not-plain (feature i) h = refl
+not-plain (neg g) h = refl
+not-plain (chain o ps g) h = refl
+not-plain (choice c g k) h = refl
+
+pub plain-is : (ns : List (List ℕ)) (x : List ℕ) {g : Guard} {rest : List ℕ} → readWhole ns x ≡ took g rest → oneIf (sameBytes x (49 ∷ [])) ≡ plainOf g
+plain-is ns x {g} {rest} q = go (sameBytes x (49 ∷ [])) refl
+  where
+    go : (t : Bool) → sameBytes x (49 ∷ []) ≡ t → oneIf t ≡ plainOf g
+    go true e =
+        let w : x ≡ 49 ∷ [] = same-true x (49 ∷ []) e in
+        let y : readWhole ns x ≡ took always [] = ap (readWhole ns) w ∙ plain-yes ns in
+        let z : g ≡ always = cc in
+        sym (ap plainOf z)
+    go false e = not-plain g (plain-no ns x q (same-false x (49 ∷ []) e))
+
+-- ---- a part of what lies in the sheet lies there too
+
+pub lies-part : {s l : List ℕ} {at : ℕ} (b e : ℕ) → Lies s l at → b ≤ e → e ≤ length l → Lies s (part l b e) (at + b)
+lies-part {s} {l} {at} b e h k m =
+    let w = h .within in
+    let n : length (part l b e) ≡ e - b = part-length l b e m in
+    let z : at + b + length (part l b e) ≡ at + e = omega arith in
+    let y : at + length l - at ≡ length l = omega arith in
+    record {
+      within = omega arith;
+      is =
+          ap (part s (at + b)) z
+          ∙ sym (part-part s at (at + length l) b e (omega arith))
+          ∙ ap (λ (x : List ℕ). part x b e) (h .is);
+    }
+
+-- ---- `move`: the guard, the repeat and the row
+
+module _ (n : ℕ) (st : State) (from : ℕ) (action : List ℕ) (place to : ℕ) (x : List ℕ) (rd : GuardRead) (gs : List ℕ) {s : List ℕ} {nm : List (List ℕ)} {v : List ℕ} {m g t d : List (List ℕ)} {c : Progress}
+    (so : Stands s (tables nm v m g t d) c st) (q : Reads x 0 rd gs (readWhole (namesOf s nm (min (c .features) 10)) x)) where
+  read : Reads x 0 rd gs (readWhole (names (st .sheet .features)) x)
+  read = subst (λ (ns : List (List ℕ)). Reads x 0 rd gs (readWhole ns x)) (names-stand so) q
+
+  pub move-refused : {i p : ℕ} {r : LineRead} → rd ≡ guard.Refused i p → r ≡ Refused i n → Says s (tables nm v m g t d) r (guardedMove n st from action place to x)
+  unfolding guardedMove
+  move-refused a z = refuses z (guard-refused n (names (st .sheet .features)) x rd gs read _ a)
+
+  module _ {p : ℕ} (a : rd ≡ guard.Upto p) {y : Bool} (has : (ms : List Move) → Rows (λ i k. MoveRow s (getD m i []) k) (min (c .moves) 256) ms → y ≡ moved from action to ms) where
+    after : Guard → Answer State
+    after k =
+        refuseIf (moved from action to (st .sheet .moves)) 9 n
+        (keep 3 (st .validLine) (withMove (st .sheet) (record { line = n; from = from; action = action; place = place; to = to; guard = k })))
+
+    repeats : y ≡ moved from action to (st .sheet .moves)
+    repeats =
+        let few = so .filled .moves .few in
+        let e : min (c .moves) 256 ≡ c .moves = omega arith in
+        has (st .sheet .moves) (rw e (so .filled .moves .rows))
+
+    pub move-repeat : {r : LineRead} → y ≡ true → r ≡ Refused 9 n → Says s (tables nm v m g t d) r (guardedMove n st from action place to x)
+    unfolding guardedMove after
+    move-repeat e z =
+        let w = guard-taken n (names (st .sheet .features)) x rd gs read after a in
+        refuses z (w .3 ∙ rw (sym repeats ∙ e))
+
+    pub move-kept : {u : ℕ} → y ≡ false → c .moves < 256 → Lies s action place → u ≡ oneIf (sameBytes x (49 ∷ []))
+        → Says s (tables nm v (set m (c .moves) (n ∷ from ∷ place ∷ (place + length action) ∷ to ∷ u ∷ [])) (set g (c .moves) gs) t d)
+        (Kept (record { section = 3; valid = c .valid; features = c .features; start = c .start; moves = c .moves + 1; stops = c .stops }))
+        (guardedMove n st from action place to x)
+    unfolding guardedMove after
+    move-kept {u} e few lies f =
+        let w = guard-taken n (names (st .sheet .features)) x rd gs read after a in
+        let k : u ≡ plainOf (w .0) = f ∙ plain-is (names (st .sheet .features)) x (w .1) in
+        keeps (w .3 ∙ rw (sym repeats ∙ e))
+        (record {
+          section = refl;
+          validLine = so .validLine;
+          start = so .start;
+          valid = so .valid;
+          apart = so .apart;
+          filled = record {
+            names = so .filled .names;
+            moves = table-put (so .filled .moves) few (record { lies = lies; is = ap (λ (z : ℕ). n ∷ from ∷ place ∷ (place + length action) ∷ to ∷ z ∷ []) k });
+            moveGuards = table-put (so .filled .moveGuards) few (w .2);
+            stops = so .filled .stops;
+            stopGuards = so .filled .stopGuards;
+          };
+        })
+
+-- ---- `move`: the fields
+
+pub ends-of : (l : List ℕ) {cut : FourFields} {b m d : ℕ} → cut ≡ Ends b m d → CutsFour l cut → CutsFour l (Ends b m d)
+ends-of l e h = subst (CutsFour l) e h
+
+-- the action stands in the sheet behind the from field
+module _ (l : List ℕ) {cut : FourFields} {b m d : ℕ} (e : cut ≡ Ends b m d) (h : CutsFour l cut) where
+  pub action-fits : (at n : ℕ) → at + length l ≤ n → at + b + 1 + length (part l (b + 1) m) ≤ n
+  action-fits at n k = let i = ends-of l e h in omega (arith, part-length l (b + 1) m (omega arith))
+
+  pub action-lies : {s : List ℕ} {at : ℕ} → Lies s l at → Lies s (part l (b + 1) m) (at + b + 1)
+  action-lies {s} {at} k =
+      let i = ends-of l e h in
+      let z : at + (b + 1) ≡ at + b + 1 = omega arith in
+      subst (Lies s (part l (b + 1) m)) z (lies-part (b + 1) m k (omega arith) (omega arith))
+
+module _ (l : List ℕ) (n at : ℕ) (st : State) {s : List ℕ} where
+  pub move-wrong : {T : Tables} {cut : FourFields} {r : LineRead} → cut ≡ NotFour → CutsFour l cut → r ≡ Refused 3 n → Says s T r (moveLine n at st (asFour (fields l)))
+  unfolding moveLine
+  move-wrong e h z = refuses z (ap (moveLine n at st) (subst (CutsFour l) e h))
+
+  module _ {T : Tables} {c : Progress} (so : Stands s T c st) {cut : FourFields} {b m d : ℕ} (e : cut ≡ Ends b m d) (h : CutsFour l cut) where
+    cuts : asFour (fields l) ≡ four (part l 0 b) (part l (b + 1) m) (part l (m + 1) d) (part l (d + 1) (length l))
+    cuts = ends-of l e h .3
+
+    counted : length (st .sheet .moves) ≡ c .moves
+    counted = rows-length (so .filled .moves .rows)
+
+    pub move-full : {r : LineRead} → 256 ≤ c .moves → r ≡ Refused 8 n → Says s T r (moveLine n at st (asFour (fields l)))
+    unfolding moveLine
+    move-full k z = let y = counted in refuses z (rw (cuts, le-leb 256 (length (st .sheet .moves)) (omega arith)))
+
+    module _ (k : c .moves < 256) where
+      few : leb 256 (length (st .sheet .moves)) ≡ false
+      few = let y = counted in lt-leb 256 (length (st .sheet .moves)) (omega arith)
+
+      pub move-from : {f : Number} {r : LineRead} → f ≡ Bad → f ≡ readState (part l 0 b) → r ≡ Refused 4 n → Says s T r (moveLine n at st (asFour (fields l)))
+      unfolding moveLine
+      move-from f1 g1 z = let y : readState (part l 0 b) ≡ Bad = sym g1 ∙ f1 in refuses z (rw (cuts, few, y))
+
+      module _ {f : Number} {from : ℕ} (f1 : f ≡ Of from) (g1 : f ≡ readState (part l 0 b)) where
+        source : readState (part l 0 b) ≡ Of from
+        source = sym g1 ∙ f1
+
+        pub move-action : {a : Bool} {r : LineRead} → a ≡ isAction (part l (b + 1) m) → not a ≡ true → r ≡ Refused 4 n → Says s T r (moveLine n at st (asFour (fields l)))
+        unfolding moveLine
+        move-action {a} g2 f2 z = let y : isAction (part l (b + 1) m) ≡ false = sym g2 ∙ not-true a f2 in refuses z (rw (cuts, few, source, y))
+
+        module _ {a : Bool} (g2 : a ≡ isAction (part l (b + 1) m)) (f2 : not a ≡ false) where
+          good : isAction (part l (b + 1) m) ≡ true
+          good = sym g2 ∙ not-false a f2
+
+          pub move-to : {o : Number} {r : LineRead} → o ≡ Bad → o ≡ readState (part l (m + 1) d) → r ≡ Refused 4 n → Says s T r (moveLine n at st (asFour (fields l)))
+          unfolding moveLine
+          move-to f3 g3 z = let y : readState (part l (m + 1) d) ≡ Bad = sym g3 ∙ f3 in refuses z (rw (cuts, few, source, good, y))
+
+          pub move-on : {o : Number} {to : ℕ} {T′ : Tables} {r : LineRead} → o ≡ Of to → o ≡ readState (part l (m + 1) d)
+              → Says s T′ r (guardedMove n st from (part l (b + 1) m) (at + b + 1) to (part l (d + 1) (length l)))
+              → Says s T′ r (moveLine n at st (asFour (fields l)))
+          unfolding moveLine
+          move-on {o} {to} {T′} {r} f3 g3 w =
+              let y : readState (part l (m + 1) d) ≡ Of to = sym g3 ∙ f3 in
+              let i = ends-of l e h in
+              let j : at + length (part l 0 b) + 1 ≡ at + b + 1 = omega (arith, part-length l 0 b (omega arith)) in
+              rw (cuts, few, source, good, y, j) w
+
+-- ---- `stop`
+
+pub parted-of : (l : List ℕ) {cut : TwoFields} {b : ℕ} → cut ≡ Parted b → CutsTwo l cut → CutsTwo l (Parted b)
+parted-of l e h = subst (CutsTwo l) e h
+
+module _ (l : List ℕ) (n : ℕ) (st : State) where
+  pub stop-wrong : {s : List ℕ} {T : Tables} {cut : TwoFields} {r : LineRead} → cut ≡ NotTwo → CutsTwo l cut → r ≡ Refused 3 n → Says s T r (stopLine n st (asTwo (fields l)))
+  unfolding stopLine
+  stop-wrong e h z = refuses z (ap (stopLine n st) (subst (CutsTwo l) e h))
+
+  module _ {cut : TwoFields} {b : ℕ} (e : cut ≡ Parted b) (h : CutsTwo l cut) where
+    halves : asTwo (fields l) ≡ two (part l 0 b) (part l (b + 1) (length l))
+    halves = parted-of l e h .1
+
+    pub stop-state : {s : List ℕ} {T : Tables} {q : Number} {r : LineRead} → q ≡ Bad → q ≡ readState (part l 0 b) → r ≡ Refused 4 n → Says s T r (stopLine n st (asTwo (fields l)))
+    unfolding stopLine
+    stop-state f1 g1 z = let y : readState (part l 0 b) ≡ Bad = sym g1 ∙ f1 in refuses z (rw (halves, y))
+
+    module _ {q : Number} {w : ℕ} (f1 : q ≡ Of w) (g1 : q ≡ readState (part l 0 b)) (rd : GuardRead) (gs : List ℕ) {s : List ℕ} {nm : List (List ℕ)} {v : List ℕ} {m g t d : List (List ℕ)} {c : Progress}
+        (so : Stands s (tables nm v m g t d) c st) (k : Reads (part l (b + 1) (length l)) 0 rd gs (readWhole (namesOf s nm (min (c .features) 10)) (part l (b + 1) (length l)))) where
+      x : List ℕ
+      x = part l (b + 1) (length l)
+
+      stopping : readState (part l 0 b) ≡ Of w
+      stopping = sym g1 ∙ f1
+
+      told : Reads x 0 rd gs (readWhole (names (st .sheet .features)) x)
+      unfolding x
+      told = subst (λ (ns : List (List ℕ)). Reads (part l (b + 1) (length l)) 0 rd gs (readWhole ns (part l (b + 1) (length l)))) (names-stand so) k
+
+      then : Guard → Answer State
+      then z = refuseIf (stopped w (st .sheet .stops)) 9 n (keep 4 (st .validLine) (withStop (st .sheet) (record { line = n; state = w; guard = z })))
+
+      begins : stopLine n st (asTwo (fields l)) ≡ guarded n (readWhole (names (st .sheet .features)) x) then
+      unfolding stopLine x then
+      begins = rw (halves, stopping)
+
+      pub stop-refused : {i p : ℕ} {r : LineRead} → rd ≡ guard.Refused i p → r ≡ Refused i n → Says s (tables nm v m g t d) r (stopLine n st (asTwo (fields l)))
+      stop-refused a z = refuses z (begins ∙ guard-refused n (names (st .sheet .features)) x rd gs told then a)
+
+      module _ {p : ℕ} (a : rd ≡ guard.Upto p) {y : Bool} (has : (ds : List Stop) → Rows (λ i z. StopRow (getD t i []) z) (min (c .stops) 64) ds → y ≡ stopped w ds) where
+        comes : y ≡ stopped w (st .sheet .stops)
+        comes =
+            let few = so .filled .stops .few in
+            let z : min (c .stops) 64 ≡ c .stops = omega arith in
+            has (st .sheet .stops) (rw z (so .filled .stops .rows))
+
+        pub stop-repeat : {r : LineRead} → y ≡ true → r ≡ Refused 9 n → Says s (tables nm v m g t d) r (stopLine n st (asTwo (fields l)))
+        unfolding then
+        stop-repeat i z =
+            let u = guard-taken n (names (st .sheet .features)) x rd gs told then a in
+            refuses z (begins ∙ u .3 ∙ rw (sym comes ∙ i))
+
+        -- a state that has not come leaves a row free
+        fits : y ≡ false → c .stops < 64
+        fits i =
+            let small = state-small (part l 0 b) stopping in
+            let z = stops-fit (st .sheet .stops) (so .apart) (omega arith) (sym comes ∙ i) in
+            let j = rows-length (so .filled .stops .rows) in
+            omega arith
+
+        pub stop-never : {r : LineRead} → y ≡ false → 64 ≤ c .stops → Says s (tables nm v m g t d) r (stopLine n st (asTwo (fields l)))
+        stop-never i z = let j = fits i in absurd (omega arith)
+
+        pub stop-kept : y ≡ false
+            → Says s (tables nm v m g (set t (c .stops) (n ∷ w ∷ [])) (set d (c .stops) gs))
+            (Kept (record { section = 4; valid = c .valid; features = c .features; start = c .start; moves = c .moves; stops = c .stops + 1 }))
+            (stopLine n st (asTwo (fields l)))
+        unfolding then
+        stop-kept i =
+            let u = guard-taken n (names (st .sheet .features)) x rd gs told then a in
+            let small = state-small (part l 0 b) stopping in
+            keeps (begins ∙ u .3 ∙ rw (sym comes ∙ i))
+            (record {
+              section = refl;
+              validLine = so .validLine;
+              start = so .start;
+              valid = so .valid;
+              apart = (omega arith, sym comes ∙ i, so .apart);
+              filled = record {
+                names = so .filled .names;
+                moves = so .filled .moves;
+                moveGuards = so .filled .moveGuards;
+                stops = table-put (so .filled .stops) (fits i) refl;
+                stopGuards = table-put (so .filled .stopGuards) (fits i) (u .2);
+              };
+            })

@@ -1,0 +1,89 @@
+-- Rows and tables, whatever they hold: one row more, one row less, the row of an element. The relation of a row is a variable throughout, so that
+-- each law serves every table. Assumes nothing.
+use mathlib.Core.Path.{_≡_, refl, sym, ap, ap₂, _∙_}
+use mathlib.Core.Logic.{⊎-elim}
+use mathlib.Core.List.{List, [], _∷_, _++_, List·Memᴰ, List·Memᴰ·head, List·Memᴰ·tail}
+use Prim.Native.Nat.{ℕ, suc, _+_, _-_, _<_}
+use native.Mathlib.Nat.{eq-or-lt-of-le}
+use native.Mathlib.Numerals.{add-one}
+use native.Mathlib.Omega.{arith}
+use borrow.Author.Tests.{le-leb}
+use lib.ListN.{length, getD, set, replicate, length-set, length-replicate, getD-replicate}
+use lib.Seq.{getD-set-same, getD-set-other}
+use Rattle.fields.specs.Bytes.{pieceOf}
+use Rattle.guards.specs.Reading.{namesOf}
+use Rattle.sheet.specs.Sheet.{Feature, names}
+use Rattle.sheet.specs.Tables.{Rows, none, next, Table, FeatureRow}
+
+-- ---- rows
+
+module _ {A : Type 0} where
+  pub rows-length : {R : ℕ → A → Type 0} {k : ℕ} {xs : List A} → Rows R k xs → length xs ≡ k
+  rows-length none = refl
+  rows-length (next r rs) = ap suc (rows-length rs)
+
+  pub rows-keep : {R S : ℕ → A → Type 0} {k : ℕ} {xs : List A} → ((i : ℕ) (x : A) → i < k → R i x → S i x) → Rows R k xs → Rows S k xs
+  rows-keep f none = none
+  rows-keep f (next {k} {x} r rs) = next (f k x (omega arith) r) (rows-keep (λ i y h. f i y (omega arith)) rs)
+
+  pub rows-none : {R : ℕ → A → Type 0} {k : ℕ} {xs : List A} → Rows R k xs → k ≡ 0 → xs ≡ []
+  rows-none none e = refl
+  rows-none (next r rs) e = absurd (omega arith)
+
+  -- the last row
+  pub rows-split : {R : ℕ → A → Type 0} {i : ℕ} {xs : List A} → Rows R i xs → 0 < i
+      → (x : A) × (ys : List A) × (xs ≡ x ∷ ys) × R (i - 1) x × Rows R (i - 1) ys
+  rows-split none h = absurd (omega arith)
+  rows-split {R} (next {k} {x} {xs} r rs) h = let z : suc k - 1 ≡ k = omega arith in (x, xs, refl, rw z r, rw z rs)
+
+  -- row i is for the element before which i elements were read
+  pub rows-at : {R : ℕ → A → Type 0} {k : ℕ} {xs : List A} {i : ℕ} → Rows R k xs → i < k
+      → (zs : List A) × (x : A) × (ys : List A) × (xs ≡ zs ++ x ∷ ys) × (length ys ≡ i) × R i x
+  rows-at none h = absurd (omega arith)
+  rows-at {R} {i = i} (next {k} {x} {xs} r rs) h =
+      ⊎-elim (λ (e : i ≡ k). ([], x, xs, refl, rows-length rs ∙ sym e, rw e r))
+      (λ (l : i < k). let z = rows-at rs l in (x ∷ z .0, z .1, z .2, ap (λ (l : List A). x ∷ l) (z .3), z .4, z .5))
+      (eq-or-lt-of-le (omega arith))
+
+  -- and each element has its row
+  pub rows-of : {R : ℕ → A → Type 0} {k : ℕ} {xs : List A} {x : A} → Rows R k xs → List·Memᴰ x xs → (i : ℕ) × (i < k) × R i x
+  rows-of (next {k} r rs) (List·Memᴰ·head e) = (k, omega arith, rw e r)
+  rows-of (next {k} r rs) (List·Memᴰ·tail m) = let z = rows-of rs m in (z .0, omega arith, z .2)
+
+-- ---- tables
+
+module _ {A : Type 0} {R : List ℕ → A → Type 0} {blank : List ℕ} {most : ℕ} where
+  pub table-blank : Table R blank most (replicate most blank) 0 []
+  table-blank = record { long = simp length-replicate; few = omega arith; rows = none; rest = λ i l h. getD-replicate most i blank [] h }
+
+  pub table-put : {t : List (List ℕ)} {k : ℕ} {xs : List A} {row : List ℕ} {x : A} → Table R blank most t k xs → k < most → R row x
+      → Table R blank most (set t k row) (k + 1) (x ∷ xs)
+  table-put {t} {k} {xs} {row} {x} h lt r =
+      let long = h .long in
+      record {
+        long = simp length-set long;
+        few = omega arith;
+        rows =
+            rw (add-one k)
+            (next {k = k} {x = x} (rw (getD-set-same t k row [] (omega arith)) r)
+            (rows-keep (λ i y l q. rw (getD-set-other t k i row [] (omega arith)) q) (h .rows)));
+        rest = λ i l m. rw (getD-set-other t k i row [] (omega arith)) (h .rest i (omega arith) m);
+      }
+
+-- ---- the names of the features
+
+pub names-length : (fs : List Feature) → length (names fs) ≡ length fs
+unfolding names
+names-length [] = refl
+names-length (f ∷ fs) = ap suc (names-length fs)
+
+names-piece : {s row : List ℕ} {f : Feature} → FeatureRow s row f → pieceOf s (getD row 0 0) (getD row 1 0) ≡ f .name
+unfolding pieceOf
+names-piece {s} {row} {f} h =
+    let within = h .lies .within in
+    rw (h .is, le-leb (f .place) (f .place + length (f .name)) (omega arith), le-leb (f .place + length (f .name)) (length s) within) (h .lies .is)
+
+pub names-of : (s : List ℕ) (t : List (List ℕ)) {k : ℕ} {fs : List Feature} → Rows (λ i f. FeatureRow s (getD t i []) f) k fs → namesOf s t k ≡ names fs
+unfolding namesOf names
+names-of s t none = refl
+names-of s t (next r rs) = ap₂ (λ (x : List ℕ) (xs : List (List ℕ)). x ∷ xs) (names-piece r) (names-of s t rs)

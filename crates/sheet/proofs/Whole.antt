@@ -1,0 +1,281 @@
+-- A line by its word, the end of the sheet, and the loop over the lines: what is left to read, after the lines so far, is what the whole sheet
+-- reads as. Assumes nothing.
+use mathlib.Core.Path.{_≡_, refl, sym, ap, subst, _∙_}
+use mathlib.Core.Bool.{Bool, true, false, not, _&&_, and-false}
+use mathlib.Core.Logic.{⊎-elim}
+use mathlib.Core.List.{List, [], _∷_}
+use Prim.Native.Nat.{ℕ, zero, suc, _+_, _-_, _^_, _≤_, _<_, min}
+use native.Mathlib.Nat.{eq-or-lt-of-le}
+use native.Mathlib.Omega.{arith}
+use borrow.Author.Tests.{eq-eqb, ne-eqb, lt-ltb, le-ltb, ltb-true}
+use lib.Dec.{ltb, eqb}
+use lib.ListN.{length, getD, drop, replicate}
+use lib.Pow.{pow-mono}
+use Rattle.products.specs.declared.Found.{Found}
+use Rattle.products.specs.declared.Found.the-variants.{At, Nothing}
+use Rattle.products.specs.Sets.{has, oneIf, In, Finds}
+use Rattle.products.proofs.Laws.{empty-has}
+use Rattle.fields.specs.Bytes.{part, FirstAt}
+use Rattle.fields.specs.Cutting.{lines, fields, asOne, asTwo, asFour}
+use Rattle.fields.proofs.Parts.{part-length, part-rest}
+use Rattle.fields.proofs.Cuts.{cut-more, cut-last, first-there, lines-more, lines-none}
+use Rattle.guards.specs.Guard.{Means, holds, never}
+use Rattle.sheet.specs.declared.Counts.{Counts}
+use Rattle.sheet.specs.declared.Progress.{Progress}
+use Rattle.sheet.specs.declared.LineKind.{LineKind}
+use Rattle.sheet.specs.declared.LineKind.the-variants.{Fts, Feature, Valid, Start, Move, Stop, Misplaced}
+use Rattle.sheet.specs.declared.LineRead.{LineRead}
+use Rattle.sheet.specs.declared.LineRead.the-variants as line
+use Rattle.sheet.specs.declared.SheetRead.{SheetRead}
+use Rattle.sheet.specs.declared.SheetRead.the-variants as whole
+use Rattle.sheet.specs.Sheet.{Sheet, isValid}
+use Rattle.sheet.specs.Reading.{State, Answer, kept, refused, goOn, kindIn, byKind, byWord, ftsLine, featureLine, validLine, startLine, moveLine, stopLine, readLine, none, ended, readLines, nothing, last, readSheet}
+use Rattle.sheet.specs.Tables.{Tables, tables, blankTables, Lies, Stands, Says, SaysIn, StandsFor, Ends, EndsIn, ReadsSheet}
+use Rattle.sheet.proofs.Rows.{rows-length, table-blank}
+use Rattle.sheet.proofs.Moves.{lies-part}
+
+-- ---- a line by its word
+
+-- no kind of line has one field only
+alone : (k : LineKind) (n at : ℕ) (st : State) → byKind k n at st [] ≡ refused 3 n
+unfolding ftsLine featureLine validLine startLine moveLine stopLine
+alone Fts n at st = refl
+alone Feature n at st = refl
+alone Valid n at st = refl
+alone Start n at st = refl
+alone Move n at st = refl
+alone Stop n at st = refl
+alone Misplaced n at st = refl
+
+module _ (l : List ℕ) {w : ℕ} (h : FirstAt l 9 0 w) (n at : ℕ) (st : State) where
+  pub line-alone : length l ≤ w → readLine n at st l ≡ refused 3 n
+  unfolding readLine
+  line-alone e = ap (byWord n at st) (cut-last h e) ∙ alone (kindIn (st .section) l) n (at + length l + 1) st
+
+  pub line-worded : {k : LineKind} {q : ℕ} → w < length l → q ≡ st .section → k ≡ kindIn q (part l 0 w)
+      → readLine n at st l ≡ byKind k n (at + w + 1) st (fields (part l (w + 1) (length l)))
+  unfolding readLine
+  line-worded {k} {q} e s d =
+      let z : length (part l 0 w) ≡ w = part-length l 0 w (omega arith) ∙ omega arith in
+      let y : kindIn (st .section) (part l 0 w) ≡ k = ap (λ (x : ℕ). kindIn x (part l 0 w)) (sym s) ∙ sym d in
+      ap (byWord n at st) (cut-more h ([] ∷ []) e) ∙ rw (z, y, part-rest l (w + 1))
+
+pub says-as : {s : List ℕ} {T : Tables} {r : LineRead} {a b : Answer State} → a ≡ b → Says s T r b → Says s T r a
+says-as e h = rw e h
+
+-- the line by its kind, once the kind is known
+pub line-of : (l : List ℕ) {w : ℕ} (h : FirstAt l 9 0 w) (n at : ℕ) (st : State) {k m : LineKind} {q : ℕ} {s : List ℕ} {T : Tables} {r : LineRead}
+    → w < length l → q ≡ st .section → k ≡ kindIn q (part l 0 w) → k ≡ m
+    → Says s T r (byKind m n (at + w + 1) st (fields (part l (w + 1) (length l)))) → Says s T r (readLine n at st l)
+line-of l {w} h n at st e s d f g =
+    says-as (line-worded l h n at st e s d ∙ ap (λ (x : LineKind). byKind x n (at + w + 1) st (fields (part l (w + 1) (length l)))) f) g
+
+-- a line lies in the sheet, and so does what stands behind its word
+pub line-lies : (s : List ℕ) (at e : ℕ) → at ≤ e → e ≤ length s → Lies s (part s at e) at
+line-lies s at e h k =
+    let n = part-length s at e k in
+    let z : at + length (part s at e) ≡ e = omega arith in
+    record { within = omega arith; is = ap (part s at) z }
+
+pub rest-lies : (s : List ℕ) (at e : ℕ) → at ≤ e → e ≤ length s → (w : ℕ) → w < length (part s at e)
+    → Lies s (part (part s at e) (w + 1) (length (part s at e))) (at + w + 1)
+rest-lies s at e h k w m =
+    let z : at + (w + 1) ≡ at + w + 1 = omega arith in
+    subst (Lies s (part (part s at e) (w + 1) (length (part s at e)))) z (lies-part (w + 1) (length (part s at e)) (line-lies s at e h k) (omega arith) (omega arith))
+
+-- ---- the end of the sheet
+
+none-true : (t : ℕ → Bool) (n : ℕ) → ((p : ℕ) → p < n → t p ≡ false) → none t n ≡ true
+unfolding none
+none-true t zero f = refl
+none-true t (suc n) f = rw (f n (omega arith), none-true t n (λ p h. f p (omega arith)))
+
+none-false : (t : ℕ → Bool) (n p : ℕ) → p < n → t p ≡ true → none t n ≡ false
+unfolding none
+none-false t zero p h e = absurd (omega arith)
+none-false t (suc n) p h e =
+    ⊎-elim (λ (q : p ≡ n). let z : t n ≡ true = ap t (sym q) ∙ e in rw z) (λ (l : p < n). rw (none-false t n p l e) (and-false (not (t n))))
+    (eq-or-lt-of-le (omega arith))
+
+one-and : (a b : Bool) → min (oneIf b) (oneIf a) ≡ oneIf (a && b)
+one-and true true = refl
+one-and true false = refl
+one-and false true = refl
+one-and false false = refl
+
+one-true : (b : Bool) → oneIf b ≡ 1 → b ≡ true
+one-true true e = refl
+one-true false e = absurd (omega arith)
+
+one-false : (b : Bool) → (oneIf b ≡ 1 → ⊥) → b ≡ false
+one-false true f = absurd (f refl)
+one-false false f = refl
+
+and-left : (a b : Bool) → a && b ≡ true → a ≡ true
+and-left true b e = refl
+and-left false b e = e
+
+module _ {s : List ℕ} {nm : List (List ℕ)} {v : List ℕ} {m g t d : List (List ℕ)} {c : Progress} {st : State} (so : Stands s (tables nm v m g t d) c st) (n : ℕ) where
+  pub lacking : {T : Tables} {r : SheetRead} → c .section < 3 → r ≡ whole.Refused 3 n → Ends s T r (ended n st)
+  unfolding ended
+  lacking l z = let e = so .section in record { is = rw z (rw (lt-ltb (st .section) 3 (omega arith))) }
+
+  module _ (l : 3 ≤ c .section) (x y : List ℕ) (both : (p : ℕ) → p < 1024 → has y p ≡ min (has v p) (has x p)) (all : (p : ℕ) → p < 1024 → has x p ≡ oneIf (ltb p (2 ^ c .features))) where
+    come : ltb (st .section) 3 ≡ false
+    come = let e = so .section in le-ltb (st .section) 3 (omega arith)
+
+    counted : length (st .sheet .features) ≡ c .features
+    counted = rows-length (so .filled .names .rows)
+
+    pub allowed : (p : ℕ) → p < 1024 → has y p ≡ oneIf (isValid (st .sheet) p)
+    unfolding Means
+    allowed p h =
+        both p h
+        ∙ rw (so .valid p h, all p h, sym counted) (one-and (ltb p (2 ^ length (st .sheet .features))) (holds (st .sheet .valid) p))
+
+    small : (p : ℕ) → p < 2 ^ length (st .sheet .features) → p < 1024
+    small p h =
+        let few = so .filled .names .few in
+        let e = counted in
+        let k : 2 ^ length (st .sheet .features) ≤ 2 ^ 10 = pow-mono {j = 10} (omega arith) in
+        omega arith
+
+    module _ (f : Found) (least : Finds _≤_ (In y) f) where
+      pub no-product : {T : Tables} {r : SheetRead} → f ≡ Nothing → r ≡ whole.Refused 10 (c .valid) → Ends s T r (ended n st)
+      unfolding ended
+      no-product a z =
+          let k : (q : ℕ) → In y q → ⊥ = subst (Finds _≤_ (In y)) a least in
+          let i : (p : ℕ) → p < 2 ^ length (st .sheet .features) → isValid (st .sheet) p ≡ false =
+          λ p h. one-false (isValid (st .sheet) p) (λ e. k p (record { small = small p h; is = allowed p (small p h) ∙ e })) in
+          record { is = rw (z, so .validLine) (rw (come, none-true (isValid (st .sheet)) (2 ^ length (st .sheet .features)) i)) }
+
+      pub finished : {q : ℕ} → f ≡ At q
+          → Ends s (tables nm y m g t d) (whole.Kept (record { features = c .features; start = c .start; moves = c .moves; stops = c .stops })) (ended n st)
+      unfolding ended
+      finished {q} a =
+          let k = subst (Finds _≤_ (In y)) a least in
+          let i : isValid (st .sheet) q ≡ true = one-true (isValid (st .sheet) q) (sym (allowed q (k .is .small)) ∙ k .is .is) in
+          let j : q < 2 ^ length (st .sheet .features) = ltb-true q (2 ^ length (st .sheet .features)) (and-left (ltb q (2 ^ length (st .sheet .features))) (holds (st .sheet .valid) q) i) in
+          record {
+            is = (
+              st .sheet,
+              rw (come, none-false (isValid (st .sheet)) (2 ^ length (st .sheet .features)) q j i),
+              record {
+                start = so .start;
+                valid = allowed;
+                filled = record {
+                  names = so .filled .names;
+                  moves = so .filled .moves;
+                  moveGuards = so .filled .moveGuards;
+                  stops = so .filled .stops;
+                  stopGuards = so .filled .stopGuards;
+                };
+              },
+            );
+          }
+
+-- ---- the loop over the lines
+
+-- the lines so far stand for a state, and the sheet reads as what is left to read from there
+pub record Going (s : List ℕ) (T : Tables) (c : Progress) (n at : ℕ) : Type 0 where
+  pub state : State
+  pub stands : Stands s T c state
+  pub left : readSheet s ≡ readLines n at state (lines (drop at s))
+  pub ends : getD s (length s - 1) 0 ≡ 10
+  pub within : at ≤ length s
+  pub few : n ≤ at + 1
+
+last-at : (d : ℕ) (s : List ℕ) → 0 < length s → last d s ≡ getD s (length s - 1) 0
+unfolding last
+last-at d [] h = absurd (omega arith)
+last-at d (b ∷ []) h = refl
+last-at d (b ∷ x ∷ s) h =
+    let z : suc (suc (length s)) - 1 ≡ suc (suc (length s) - 1) = omega arith in
+    last-at b (x ∷ s) (omega arith) ∙ rw z
+
+last-none : (s : List ℕ) → length s ≡ 0 → last 0 s ≡ 0
+unfolding last
+last-none [] h = refl
+last-none (b ∷ s) h = absurd (omega arith)
+
+module _ (s : List ℕ) where
+  pub sheet-long : {T : Tables} {r : SheetRead} → 65536 < length s → r ≡ whole.Refused 1 0 → Ends s T r (readSheet s)
+  unfolding readSheet
+  sheet-long h z = record { is = rw z (rw (lt-ltb 65536 (length s) h)) }
+
+  module _ (l : length s ≤ 65536) where
+    pub sheet-empty : {T : Tables} {r : SheetRead} → length s ≡ 0 → r ≡ whole.Refused 2 0 → Ends s T r (readSheet s)
+    unfolding readSheet
+    sheet-empty h z = record { is = rw z (rw (le-ltb 65536 (length s) l, last-none s h)) }
+
+    module _ (h : length s ≡ 0 → ⊥) where
+      pub sheet-open : {T : Tables} {r : SheetRead} → (getD s (length s - 1) 0 ≡ 10 → ⊥) → r ≡ whole.Refused 2 0 → Ends s T r (readSheet s)
+      unfolding readSheet
+      sheet-open e z =
+          record { is = rw z (rw (le-ltb 65536 (length s) l, last-at 0 s (omega arith), ne-eqb (getD s (length s - 1) 0) 10 e)) }
+
+      begins : getD s (length s - 1) 0 ≡ 10 → readSheet s ≡ readLines 1 0 nothing (lines s)
+      unfolding readSheet
+      begins e = rw (le-ltb 65536 (length s) l, last-at 0 s (omega arith), eq-eqb (getD s (length s - 1) 0) 10 e)
+
+      pub going-start : {T : Tables} → getD s (length s - 1) 0 ≡ 10 → T ≡ blankTables
+          → Going s T (record { section = 0; valid = 0; features = 0; start = 0; moves = 0; stops = 0 }) 1 0
+      unfolding Means holds
+      going-start e b =
+          rw b
+          (record {
+            state = nothing;
+            stands = record {
+              section = refl;
+              validLine = refl;
+              start = refl;
+              valid = λ p k. empty-has p;
+              apart = tt;
+              filled = record { names = table-blank; moves = table-blank; moveGuards = table-blank; stops = table-blank; stopGuards = table-blank };
+            };
+            left = begins e;
+            ends = e;
+            within = omega arith;
+            few = omega arith;
+          })
+
+module _ {s : List ℕ} {T : Tables} {c : Progress} {n at : ℕ} (go : Going s T c n at) where
+  module _ (l : at < length s) {e : ℕ} (h : FirstAt s 10 at e) where
+    pub line-ends : (at ≤ e) × (e < length s)
+    line-ends = let z = first-there h l (go .ends) in (h .here z .0, z)
+
+    turn : readSheet s ≡ goOn (readLine n at (go .state) (part s at e)) (λ st. readLines (n + 1) (e + 1) st (lines (drop (e + 1) s)))
+    unfolding readLines
+    turn =
+        let z = line-ends in
+        let y : at + length (part s at e) + 1 ≡ e + 1 = omega (arith, part-length s at e (omega arith)) in
+        go .left ∙ ap (readLines n at (go .state)) (lines-more h (z .1)) ∙ rw y
+
+    module _ {T′ : Tables} {r : LineRead} (read : (st : State) → Stands s T c st → Says s T′ r (readLine n at st (part s at e))) where
+      said : {q : LineRead} → r ≡ q → SaysIn s T′ q (readLine n at (go .state) (part s at e))
+      said q = subst (λ (x : LineRead). SaysIn s T′ x (readLine n at (go .state) (part s at e))) q (read (go .state) (go .stands) .is)
+
+      pub going-refused : {T″ : Tables} {i k : ℕ} {a : SheetRead} → r ≡ line.Refused i k → a ≡ whole.Refused i k → Ends s T″ a (readSheet s)
+      going-refused q z = record { is = rw z (turn ∙ rw (said q)) }
+
+      pub going-on : {d : Progress} → r ≡ line.Kept d → Going s T′ d (n + 1) (e + 1)
+      going-on q =
+          let y = said q in
+          let z = line-ends in
+          let few = go .few in
+          record { state = y .0; stands = y .2; left = turn ∙ rw (y .1); ends = go .ends; within = omega arith; few = omega arith }
+
+  pub going-done : {T′ : Tables} {r : SheetRead} → length s ≤ at → ((st : State) → Stands s T c st → Ends s T′ r (ended n st)) → Ends s T′ r (readSheet s)
+  unfolding readLines
+  going-done l f = rw (go .left ∙ ap (readLines n at (go .state)) (lines-none s at l)) (f (go .state) (go .stands))
+
+-- ---- the outermost answer
+
+ends-as : {s : List ℕ} {T : Tables} {a b : SheetRead} {x : Answer Sheet} → a ≡ b → Ends s T a x → EndsIn s T b x
+ends-as e h = rw e at (h .is)
+
+pub sheet-refused : {s : List ℕ} {T U : Tables} {a : SheetRead} {i k : ℕ} → Ends s T a (readSheet s) → a ≡ whole.Refused i k → U ≡ blankTables → ReadsSheet s U a
+sheet-refused h e b = rw e (ends-as e h, b)
+
+pub sheet-kept : {s : List ℕ} {T : Tables} {a : SheetRead} {c : Counts} → Ends s T a (readSheet s) → a ≡ whole.Kept c → ReadsSheet s T a
+sheet-kept h e = rw e (ends-as e h)

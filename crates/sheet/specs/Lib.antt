@@ -1,0 +1,4 @@
+pub mod Sheet
+pub mod Reading
+pub mod Tables
+pub mod Accepted

@@ -1,0 +1,126 @@
+-- What the code's tables and answers stand for: one relation between tables and sheet. Assumes nothing: these are definitions.
+use mathlib.Core.Bool.{Bool, true, false}
+use mathlib.Core.List.{List, [], _∷_}
+use mathlib.Core.Path.{_≡_}
+use Prim.Native.Nat.{ℕ, zero, suc, _+_, _≤_, _<_}
+use lib.ListN.{length, getD, replicate}
+use Rattle.products.specs.Sets.{has, oneIf}
+use Rattle.fields.specs.Bytes.{part}
+use Rattle.guards.specs.Guard.{Guard, never, always, feature, neg, chain, choice, Means}
+use Rattle.sheet.specs.declared.Counts.{Counts}
+use Rattle.sheet.specs.declared.Progress.{Progress}
+use Rattle.sheet.specs.declared.LineRead.{LineRead}
+use Rattle.sheet.specs.declared.LineRead.the-variants as line
+use Rattle.sheet.specs.declared.SheetRead.{SheetRead}
+use Rattle.sheet.specs.declared.SheetRead.the-variants as whole
+use Rattle.sheet.specs.Sheet.{Feature, Move, Stop, Sheet, isValid}
+use Rattle.sheet.specs.Reading.{State, Answer, kept, refused, stopped, readSheet}
+
+-- the six tables that a caller lends
+pub record Tables : Type 0 where
+  pub names : List (List ℕ)
+  pub valid : List ℕ
+  pub moves : List (List ℕ)
+  pub moveGuards : List (List ℕ)
+  pub stops : List (List ℕ)
+  pub stopGuards : List (List ℕ)
+
+abbrev pub tables : List (List ℕ) → List ℕ → List (List ℕ) → List (List ℕ) → List (List ℕ) → List (List ℕ) → Tables
+tables n v m g t h = record { names = n; valid = v; moves = m; moveGuards = g; stops = t; stopGuards = h }
+
+-- the bytes x stand at a place of the sheet s
+pub record Lies (s x : List ℕ) (place : ℕ) : Type 0 where
+  pub within : place + length x ≤ length s
+  pub is : part s place (place + length x) ≡ x
+
+-- the rows for a list: row i, from 0, is for the element before which i elements were read
+pub data Rows {A : Type 0} (R : ℕ → A → Type 0) : ℕ → List A → Type 0 where
+  none : Rows R zero []
+  next : {k : ℕ} {x : A} {xs : List A} → R k x → Rows R k xs → Rows R (suc k) (x ∷ xs)
+
+-- a table of `most` rows, of which the first k are for the list xs, and the others blank
+pub record Table {A : Type 0} (R : List ℕ → A → Type 0) (blank : List ℕ) (most : ℕ) (t : List (List ℕ)) (k : ℕ) (xs : List A) : Type 0 where
+  pub long : length t ≡ most
+  pub few : k ≤ most
+  pub rows : Rows (λ i x. R (getD t i []) x) k xs
+  pub rest : (i : ℕ) → k ≤ i → i < most → getD t i [] ≡ blank
+
+-- a feature's row: the name's place, and the place behind it
+pub record FeatureRow (s row : List ℕ) (f : Feature) : Type 0 where
+  pub lies : Lies s (f .name) (f .place)
+  pub is : row ≡ f .place ∷ (f .place + length (f .name)) ∷ []
+
+-- 1 if the guard is written `1`, and 0 if it is written otherwise
+abbrev pub plainOf : Guard → ℕ
+plainOf never = 0
+plainOf always = 1
+plainOf (feature i) = 0
+plainOf (neg g) = 0
+plainOf (chain o ps g) = 0
+plainOf (choice c g h) = 0
+
+-- a move's row: line, from, the action's place, the place behind it, to, and 1 if its guard is written `1`
+pub record MoveRow (s row : List ℕ) (m : Move) : Type 0 where
+  pub lies : Lies s (m .action) (m .place)
+  pub is : row ≡ m .line ∷ m .from ∷ m .place ∷ (m .place + length (m .action)) ∷ m .to ∷ plainOf (m .guard) ∷ []
+
+-- a stop's row: line and state
+abbrev pub StopRow : List ℕ → Stop → Type 0
+StopRow row d = row ≡ d .line ∷ d .state ∷ []
+
+-- the tables' first f, k and d rows are for these features, moves and stops; the guards' sets have exactly the products in which the guards hold
+pub record Filled (s : List ℕ) (T : Tables) (f k d : ℕ) (fs : List Feature) (ms : List Move) (ds : List Stop) : Type 0 where
+  pub names : Table (FeatureRow s) (replicate 2 0) 10 (T .names) f fs
+  pub moves : Table (MoveRow s) (replicate 6 0) 256 (T .moves) k ms
+  pub moveGuards : Table (λ set m. Means set (m .guard)) (replicate 16 0) 256 (T .moveGuards) k ms
+  pub stops : Table StopRow (replicate 2 0) 64 (T .stops) d ds
+  pub stopGuards : Table (λ set d. Means set (d .guard)) (replicate 16 0) 64 (T .stopGuards) d ds
+
+-- states below 64, none twice
+abbrev pub Apart : List Stop → Type 0
+Apart [] = Unit {0}
+Apart (d ∷ ds) = (d .state < 64) × (stopped (d .state) ds ≡ false) × Apart ds
+
+-- while the lines are read
+pub record Stands (s : List ℕ) (T : Tables) (c : Progress) (st : State) : Type 0 where
+  pub section : c .section ≡ st .section
+  pub validLine : c .valid ≡ st .validLine
+  pub start : c .start ≡ st .sheet .start
+  pub valid : Means (T .valid) (st .sheet .valid)
+  pub apart : Apart (st .sheet .stops)
+  pub filled : Filled s T (c .features) (c .moves) (c .stops) (st .sheet .features) (st .sheet .moves) (st .sheet .stops)
+
+-- a line reader's answer, with the tables as they are then, is this answer of the definition
+abbrev pub SaysIn : List ℕ → Tables → LineRead → Answer State → Type 0
+SaysIn s T (line.Kept c) a = (st : State) × (a ≡ kept st) × Stands s T c st
+SaysIn s T (line.Refused e n) a = a ≡ refused e n
+
+pub record Says (s : List ℕ) (T : Tables) (r : LineRead) (a : Answer State) : Type 0 where
+  pub is : SaysIn s T r a
+
+-- ---- what the outermost reader promises
+
+-- the tables stand for the sheet r: the set `valid` has exactly the valid products
+pub record StandsFor (s : List ℕ) (T : Tables) (c : Counts) (r : Sheet) : Type 0 where
+  pub start : c .start ≡ r .start
+  pub valid : (p : ℕ) → p < 1024 → has (T .valid) p ≡ oneIf (isValid r p)
+  pub filled : Filled s T (c .features) (c .moves) (c .stops) (r .features) (r .moves) (r .stops)
+
+-- the answer at the end of the lines, with the tables as they are then, is this answer of the definition
+abbrev pub EndsIn : List ℕ → Tables → SheetRead → Answer Sheet → Type 0
+EndsIn s T (whole.Kept c) a = (r : Sheet) × (a ≡ kept r) × StandsFor s T c r
+EndsIn s T (whole.Refused e n) a = a ≡ refused e n
+
+pub record Ends (s : List ℕ) (T : Tables) (r : SheetRead) (a : Answer Sheet) : Type 0 where
+  pub is : EndsIn s T r a
+
+-- no row of any table
+abbrev pub blankTables : Tables
+blankTables =
+    tables (replicate 10 (replicate 2 0)) (replicate 16 0) (replicate 256 (replicate 6 0)) (replicate 256 (replicate 16 0)) (replicate 64 (replicate 2 0))
+    (replicate 64 (replicate 16 0))
+
+-- refused as the definition refuses, and the tables blank; or kept, and the tables stand for the definition's sheet
+abbrev pub ReadsSheet : List ℕ → Tables → SheetRead → Type 0
+ReadsSheet s T (whole.Kept c) = (r : Sheet) × (readSheet s ≡ kept r) × StandsFor s T c r
+ReadsSheet s T (whole.Refused e n) = (readSheet s ≡ refused e n) × (T ≡ blankTables)

@@ -1,0 +1,198 @@
+// Reading a sheet: its bytes to tables that stand for it, or the refusal that the table of refusals
+// gives. The tables are lent and hold numbers only; names and actions are places in the sheet.
+mod line;
+mod row;
+
+ghost use mathlib.Core.Path.{_≡_};
+ghost use mathlib.Core.List.{List};
+ghost use Prim.Native.Nat.{ℕ, _+_, _≤_, _<_};
+ghost use lib.ListN.{length};
+ghost use Rattle.sheet.specs.Reading.{State, readSheet, ended};
+ghost use Rattle.sheet.specs.Tables.{tables, blankTables, Stands, Ends, ReadsSheet};
+use line::read_line;
+use products::Found;
+
+// What an accepted sheet counts, and its start.
+pub struct Counts {
+    pub features: usize,
+    pub start: usize,
+    pub moves: usize,
+    pub stops: usize,
+}
+
+// The outermost answer: the tables stand for the sheet, or the refusal with its line.
+pub enum SheetRead {
+    Kept(Counts),
+    Refused { number: u8, line: usize },
+}
+
+// How far the lines so far have come: the section reached, the number of the `valid` line, and the counts.
+pub struct Progress {
+    pub section: u8,
+    pub valid: usize,
+    pub features: usize,
+    pub start: usize,
+    pub moves: usize,
+    pub stops: usize,
+}
+
+// A line reader's answer.
+pub enum LineRead {
+    Kept(Progress),
+    Refused { number: u8, line: usize },
+}
+
+// What a line is, by its word and the section reached.
+pub enum LineKind {
+    Fts,
+    Feature,
+    Valid,
+    Start,
+    Move,
+    Stop,
+    Misplaced,
+}
+
+const MOST_BYTES: usize = 65536;
+
+const LINE_END: u8 = 10;
+
+// Reads the sheet `text` into the six tables: for each feature the name's place and the place behind
+// it; the set of valid products; for each move its line, from, the action's place and the place behind
+// it, to, and 1 if its guard is written `1`, with the guard's set beside; for each stop its line and
+// state, with the guard's set beside. Where it refuses, every table is blank.
+pub fn read_sheet(
+    text: &[u8],
+    names: &mut [[usize; 2]; 10],
+    valid: &mut [u64; 16],
+    moves: &mut [[usize; 6]; 256],
+    move_guards: &mut [[u64; 16]; 256],
+    stops: &mut [[usize; 2]; 64],
+    stop_guards: &mut [[u64; 16]; 64],
+) -> SheetRead
+    ensures { λ r. ⌜ ReadsSheet (now (text .entry)) (tables (now (names .exit)) (now (valid .exit)) (now (moves .exit)) (now («move_guards» .exit)) (now (stops .exit)) (now («stop_guards» .exit))) r ⌝ }
+{
+    clear(names, valid, moves, move_guards, stops, stop_guards);
+    let r = read_all(text, names, valid, moves, move_guards, stops, stop_guards);
+    let SheetRead::Kept(_) = r else {
+        clear(names, valid, moves, move_guards, stops, stop_guards);
+        return r;
+    };
+    r
+}
+
+// Leaves no row in any table.
+fn clear(
+    names: &mut [[usize; 2]; 10],
+    valid: &mut [u64; 16],
+    moves: &mut [[usize; 6]; 256],
+    move_guards: &mut [[u64; 16]; 256],
+    stops: &mut [[usize; 2]; 64],
+    stop_guards: &mut [[u64; 16]; 64],
+)
+    ensures { λ r. ⌜ tables (now (names .exit)) (now (valid .exit)) (now (moves .exit)) (now («move_guards» .exit)) (now (stops .exit)) (now («stop_guards» .exit)) ≡ blankTables ⌝ }
+{
+    *names = [[0usize; 2]; 10];
+    *valid = [0u64; 16];
+    *moves = [[0usize; 6]; 256];
+    *move_guards = [[0u64; 16]; 256];
+    *stops = [[0usize; 2]; 64];
+    *stop_guards = [[0u64; 16]; 64];
+}
+
+fn refuse_sheet(number: u8, line: usize) -> SheetRead
+    ensures { λ r. ⌜ r ≡ SheetRead.Refused number line ⌝ }
+{
+    SheetRead::Refused { number, line }
+}
+
+// Reads all lines into blank tables; what a refusal leaves in them is not said.
+fn read_all(
+    text: &[u8],
+    names: &mut [[usize; 2]; 10],
+    valid: &mut [u64; 16],
+    moves: &mut [[usize; 6]; 256],
+    move_guards: &mut [[u64; 16]; 256],
+    stops: &mut [[usize; 2]; 64],
+    stop_guards: &mut [[u64; 16]; 64],
+) -> SheetRead
+    requires { ⌜ tables (now names) (now valid) (now moves) (now «move_guards») (now stops) (now «stop_guards») ≡ blankTables ⌝ }
+    ensures { λ r. ⌜ Ends (now (text .entry)) (tables (now (names .exit)) (now (valid .exit)) (now (moves .exit)) (now («move_guards» .exit)) (now (stops .exit)) (now («stop_guards» .exit))) r (readSheet (now (text .entry))) ⌝ }
+{
+    if MOST_BYTES < text.len() {
+        return refuse_sheet(1, 0);
+    }
+    if text.len() == 0 {
+        return refuse_sheet(2, 0);
+    }
+    if text[text.len() - 1] != LINE_END {
+        return refuse_sheet(2, 0);
+    }
+    let mut c = Progress {
+        section: 0,
+        valid: 0,
+        features: 0,
+        start: 0,
+        moves: 0,
+        stops: 0,
+    };
+    let mut at = 0;
+    let mut line = 1;
+    while at < text.len() {
+        let e = fields::find(text, LINE_END, at);
+        let r = read_line(
+            text,
+            at,
+            e,
+            line,
+            c,
+            names,
+            valid,
+            moves,
+            move_guards,
+            stops,
+            stop_guards,
+        );
+        let LineRead::Kept(next) = r else {
+            return pass_up(r);
+        };
+        c = next;
+        at = e + 1;
+        line += 1;
+    }
+    finish(c, line, valid)
+}
+
+// A line's refusal as the sheet's, unchanged.
+fn pass_up(r: LineRead) -> SheetRead
+    ensures { λ a. ⌜ ((e n : ℕ) → r ≡ LineRead.Refused e n → a ≡ SheetRead.Refused e n) ⌝ }
+{
+    match r {
+        LineRead::Refused { number, line } => refuse_sheet(number, line),
+        LineRead::Kept(_) => refuse_sheet(0, 0),
+    }
+}
+
+// The end of the sheet, behind its last line: `line` is the number of the line that would follow. The
+// set of valid products is cut down to the products of this sheet's features.
+fn finish(c: Progress, line: usize, valid: &mut [u64; 16]) -> SheetRead
+    ensures { λ r. ⌜ ((s : List ℕ) (n m g t h : List (List ℕ)) (st : State) → Stands s (tables n (now (valid .entry)) m g t h) c st → Ends s (tables n (now (valid .exit)) m g t h) r (ended line st)) ⌝ }
+{
+    let section = c.section;
+    if section < 3 {
+        return refuse_sheet(3, line);
+    }
+    let held = *valid;
+    let allowed = products::both(held, products::all(c.features));
+    let f = products::least(allowed);
+    let Found::At(_) = f else {
+        return refuse_sheet(10, c.valid);
+    };
+    *valid = allowed;
+    SheetRead::Kept(Counts {
+        features: c.features,
+        start: c.start,
+        moves: c.moves,
+        stops: c.stops,
+    })
+}

@@ -1,0 +1,354 @@
+// One reader for each kind of line. Each checks in the order of the table: fields (3), counts (8), the
+// fields from the left (4 to 7), repeats (9); a refusal is passed up unchanged. `rest` is what stands
+// behind the line's word and tab, and `at` its place in the text.
+ghost use mathlib.Core.Path.{_≡_};
+ghost use mathlib.Core.List.{List, _∷_};
+ghost use Prim.Native.Nat.{ℕ, _+_, _≤_, _<_};
+ghost use lib.ListN.{length};
+ghost use Rattle.products.specs.Sets.{oneIf};
+ghost use Rattle.fields.specs.Bytes.{part, sameBytes};
+ghost use Rattle.fields.specs.Cutting.{fields, asOne, asTwo, asFour};
+ghost use Rattle.sheet.specs.Reading.{State, kindIn, ftsLine, featureLine, validLine, startLine, guardedMove, moveLine, stopLine, readLine};
+ghost use Rattle.sheet.specs.Tables.{Tables, tables, Lies, Stands, Says};
+use super::LineKind;
+use super::LineRead;
+use super::Progress;
+use super::row::has_move;
+use super::row::has_stop;
+use fields::FourFields;
+use fields::Number;
+use fields::TwoFields;
+use guards::GuardRead;
+use products::Found;
+
+const TAB: u8 = 9;
+
+const MOST_FEATURES: usize = 10;
+
+const MOST_MOVES: usize = 256;
+
+const MOST_STOPS: usize = 64;
+
+// The line that stands from `at` up to `e`, the line `line`, after what c says.
+pub(crate) fn read_line(
+    text: &[u8],
+    at: usize,
+    e: usize,
+    line: usize,
+    c: Progress,
+    names: &mut [[usize; 2]; 10],
+    valid: &mut [u64; 16],
+    moves: &mut [[usize; 6]; 256],
+    move_guards: &mut [[u64; 16]; 256],
+    stops: &mut [[usize; 2]; 64],
+    stop_guards: &mut [[u64; 16]; 64],
+) -> LineRead
+    requires { ⌜ (at ≤ e) × (e ≤ length (now text)) ⌝ }
+    ensures { λ r. ⌜ ((st : State) → Stands (now (text .entry)) (tables (now (names .entry)) (now (valid .entry)) (now (moves .entry)) (now («move_guards» .entry)) (now (stops .entry)) (now («stop_guards» .entry))) c st → Says (now (text .entry)) (tables (now (names .exit)) (now (valid .exit)) (now (moves .exit)) (now («move_guards» .exit)) (now (stops .exit)) (now («stop_guards» .exit))) r (readLine line at st (part (now (text .entry)) at e))) ⌝ }
+{
+    let l = &text[at..e];
+    let w = fields::find(l, TAB, 0);
+    if l.len() <= w {
+        return refuse(3, line);
+    }
+    let rest = &l[w + 1..];
+    let k = line_kind(c.section, &l[0..w]);
+    let next = at + w + 1;
+    match k {
+        LineKind::Fts => read_fts(rest, line, c),
+        LineKind::Feature => read_feature(text, rest, next, line, c, names),
+        LineKind::Valid => read_valid(text, rest, line, c, names, valid),
+        LineKind::Start => read_start(rest, line, c),
+        LineKind::Move => read_move(text, rest, next, line, c, names, moves, move_guards),
+        LineKind::Stop => read_stop(text, rest, line, c, names, stops, stop_guards),
+        LineKind::Misplaced => refuse(3, line),
+    }
+}
+
+// The one place that knows which lines may come in which section.
+fn line_kind(section: u8, word: &[u8]) -> LineKind
+    ensures { λ r. ⌜ r ≡ kindIn section (now (word .entry)) ⌝ }
+{
+    if section == 0 {
+        if fields::same_bytes(word, b"fts") {
+            return LineKind::Fts;
+        }
+        return LineKind::Misplaced;
+    }
+    if section == 1 {
+        if fields::same_bytes(word, b"feature") {
+            return LineKind::Feature;
+        }
+        if fields::same_bytes(word, b"valid") {
+            return LineKind::Valid;
+        }
+        return LineKind::Misplaced;
+    }
+    if section == 2 {
+        if fields::same_bytes(word, b"start") {
+            return LineKind::Start;
+        }
+        return LineKind::Misplaced;
+    }
+    if fields::same_bytes(word, b"stop") {
+        return LineKind::Stop;
+    }
+    if section == 3 {
+        if fields::same_bytes(word, b"move") {
+            return LineKind::Move;
+        }
+    }
+    LineKind::Misplaced
+}
+
+fn refuse(number: u8, line: usize) -> LineRead
+    ensures { λ r. ⌜ r ≡ LineRead.Refused number line ⌝ }
+{
+    LineRead::Refused { number, line }
+}
+
+fn read_fts(rest: &[u8], line: usize, c: Progress) -> LineRead
+    ensures { λ r. ⌜ ((s : List ℕ) (T : Tables) (st : State) → Stands s T c st → Says s T r (ftsLine line st (asOne (fields (now (rest .entry)))))) ⌝ }
+{
+    if !fields::is_one(rest) {
+        return refuse(3, line);
+    }
+    if !fields::same_bytes(rest, b"1") {
+        return refuse(3, line);
+    }
+    LineRead::Kept(Progress {
+        section: 1,
+        valid: c.valid,
+        features: c.features,
+        start: c.start,
+        moves: c.moves,
+        stops: c.stops,
+    })
+}
+
+fn read_feature(
+    text: &[u8],
+    rest: &[u8],
+    at: usize,
+    line: usize,
+    c: Progress,
+    names: &mut [[usize; 2]; 10],
+) -> LineRead
+    requires { ⌜ at + length (now rest) ≤ length (now text) ⌝ }
+    ensures { λ r. ⌜ ((v : List ℕ) (m g t h : List (List ℕ)) (st : State) → Stands (now (text .entry)) (tables (now (names .entry)) v m g t h) c st → Lies (now (text .entry)) (now (rest .entry)) at → Says (now (text .entry)) (tables (now (names .exit)) v m g t h) r (featureLine line at st (asOne (fields (now (rest .entry)))))) ⌝ }
+{
+    if !fields::is_one(rest) {
+        return refuse(3, line);
+    }
+    let k = c.features;
+    if MOST_FEATURES <= k {
+        return refuse(8, line);
+    }
+    if !fields::is_name(rest) {
+        return refuse(4, line);
+    }
+    let f = guards::find_name(text, names, k, rest);
+    let Found::Nothing = f else {
+        return refuse(9, line);
+    };
+    names[k] = [at, at + rest.len()];
+    LineRead::Kept(Progress {
+        section: 1,
+        valid: c.valid,
+        features: k + 1,
+        start: c.start,
+        moves: c.moves,
+        stops: c.stops,
+    })
+}
+
+fn read_valid(
+    text: &[u8],
+    rest: &[u8],
+    line: usize,
+    c: Progress,
+    names: &[[usize; 2]; 10],
+    valid: &mut [u64; 16],
+) -> LineRead
+    ensures { λ r. ⌜ ((m g t h : List (List ℕ)) (st : State) → Stands (now (text .entry)) (tables (now (names .entry)) (now (valid .entry)) m g t h) c st → Says (now (text .entry)) (tables (now (names .entry)) (now (valid .exit)) m g t h) r (validLine line st (asOne (fields (now (rest .entry)))))) ⌝ }
+{
+    if !fields::is_one(rest) {
+        return refuse(3, line);
+    }
+    let g = guards::read_whole(text, names, c.features, rest);
+    let read = g.read;
+    if let GuardRead::Refused { number, at: _ } = read {
+        return refuse(number, line);
+    }
+    let set = g.set;
+    *valid = set;
+    LineRead::Kept(Progress {
+        section: 2,
+        valid: line,
+        features: c.features,
+        start: c.start,
+        moves: c.moves,
+        stops: c.stops,
+    })
+}
+
+fn read_start(rest: &[u8], line: usize, c: Progress) -> LineRead
+    ensures { λ r. ⌜ ((s : List ℕ) (T : Tables) (st : State) → Stands s T c st → Says s T r (startLine line st (asOne (fields (now (rest .entry)))))) ⌝ }
+{
+    if !fields::is_one(rest) {
+        return refuse(3, line);
+    }
+    let q = fields::read_state(rest);
+    let Number::Of(start) = q else {
+        return refuse(4, line);
+    };
+    LineRead::Kept(Progress {
+        section: 3,
+        valid: c.valid,
+        features: c.features,
+        start: start,
+        moves: c.moves,
+        stops: c.stops,
+    })
+}
+
+// 1 if the guard is written `1`, else 0.
+fn plain(field: &[u8]) -> usize
+    ensures { λ r. ⌜ r ≡ oneIf (sameBytes (now (field .entry)) (49 ∷ List.[])) ⌝ }
+{
+    if fields::same_bytes(field, b"1") {
+        return 1;
+    }
+    0
+}
+
+fn read_move(
+    text: &[u8],
+    rest: &[u8],
+    at: usize,
+    line: usize,
+    c: Progress,
+    names: &[[usize; 2]; 10],
+    moves: &mut [[usize; 6]; 256],
+    move_guards: &mut [[u64; 16]; 256],
+) -> LineRead
+    requires { ⌜ at + length (now rest) ≤ length (now text) ⌝ }
+    ensures { λ r. ⌜ ((v : List ℕ) (t h : List (List ℕ)) (st : State) → Stands (now (text .entry)) (tables (now (names .entry)) v (now (moves .entry)) (now («move_guards» .entry)) t h) c st → Lies (now (text .entry)) (now (rest .entry)) at → Says (now (text .entry)) (tables (now (names .entry)) v (now (moves .exit)) (now («move_guards» .exit)) t h) r (moveLine line at st (asFour (fields (now (rest .entry)))))) ⌝ }
+{
+    let cut = fields::cut_four(rest);
+    let FourFields::Ends { b, c: m, d } = cut else {
+        return refuse(3, line);
+    };
+    let k = c.moves;
+    if MOST_MOVES <= k {
+        return refuse(8, line);
+    }
+    let f = fields::read_state(&rest[0..b]);
+    let Number::Of(from) = f else {
+        return refuse(4, line);
+    };
+    if !fields::is_action(&rest[b + 1..m]) {
+        return refuse(4, line);
+    }
+    let o = fields::read_state(&rest[m + 1..d]);
+    let Number::Of(to) = o else {
+        return refuse(4, line);
+    };
+    keep_move(
+        text,
+        line,
+        c,
+        from,
+        &rest[b + 1..m],
+        at + b + 1,
+        to,
+        &rest[d + 1..],
+        names,
+        moves,
+        move_guards,
+    )
+}
+
+// A move whose states and action are good: its guard, then whether it is a repeat, then its row.
+fn keep_move(
+    text: &[u8],
+    line: usize,
+    c: Progress,
+    from: usize,
+    action: &[u8],
+    place: usize,
+    to: usize,
+    guard: &[u8],
+    names: &[[usize; 2]; 10],
+    moves: &mut [[usize; 6]; 256],
+    move_guards: &mut [[u64; 16]; 256],
+) -> LineRead
+    requires { ⌜ (place + length (now action) ≤ length (now text)) × (c .moves < 256) ⌝ }
+    ensures { λ r. ⌜ ((v : List ℕ) (t h : List (List ℕ)) (st : State) → Stands (now (text .entry)) (tables (now (names .entry)) v (now (moves .entry)) (now («move_guards» .entry)) t h) c st → Lies (now (text .entry)) (now (action .entry)) place → Says (now (text .entry)) (tables (now (names .entry)) v (now (moves .exit)) (now («move_guards» .exit)) t h) r (guardedMove line st from (now (action .entry)) place to (now (guard .entry)))) ⌝ }
+{
+    let g = guards::read_whole(text, names, c.features, guard);
+    let read = g.read;
+    if let GuardRead::Refused { number, at: _ } = read {
+        return refuse(number, line);
+    }
+    let k = c.moves;
+    if has_move(text, moves, k, from, action, to) {
+        return refuse(9, line);
+    }
+    moves[k] = [line, from, place, place + action.len(), to, plain(guard)];
+    let set = g.set;
+    move_guards[k] = set;
+    LineRead::Kept(Progress {
+        section: 3,
+        valid: c.valid,
+        features: c.features,
+        start: c.start,
+        moves: k + 1,
+        stops: c.stops,
+    })
+}
+
+// A sheet has at most one stop line for each state, so that there is always a row left for a new one.
+fn read_stop(
+    text: &[u8],
+    rest: &[u8],
+    line: usize,
+    c: Progress,
+    names: &[[usize; 2]; 10],
+    stops: &mut [[usize; 2]; 64],
+    stop_guards: &mut [[u64; 16]; 64],
+) -> LineRead
+    ensures { λ r. ⌜ ((v : List ℕ) (m g : List (List ℕ)) (st : State) → Stands (now (text .entry)) (tables (now (names .entry)) v m g (now (stops .entry)) (now («stop_guards» .entry))) c st → Says (now (text .entry)) (tables (now (names .entry)) v m g (now (stops .exit)) (now («stop_guards» .exit))) r (stopLine line st (asTwo (fields (now (rest .entry)))))) ⌝ }
+{
+    let cut = fields::cut_two(rest);
+    let TwoFields::Parted(b) = cut else {
+        return refuse(3, line);
+    };
+    let q = fields::read_state(&rest[0..b]);
+    let Number::Of(state) = q else {
+        return refuse(4, line);
+    };
+    let g = guards::read_whole(text, names, c.features, &rest[b + 1..]);
+    let read = g.read;
+    if let GuardRead::Refused { number, at: _ } = read {
+        return refuse(number, line);
+    }
+    let k = c.stops;
+    if has_stop(stops, k, state) {
+        return refuse(9, line);
+    }
+    if MOST_STOPS <= k {
+        return refuse(9, line);
+    }
+    stops[k] = [line, state];
+    let set = g.set;
+    stop_guards[k] = set;
+    LineRead::Kept(Progress {
+        section: 4,
+        valid: c.valid,
+        features: c.features,
+        start: c.start,
+        moves: c.moves,
+        stops: k + 1,
+    })
+}

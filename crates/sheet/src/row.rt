@@ -1,0 +1,71 @@
+// The rows of moves and stops that were read: whether a triple or a state has come already. Rows are
+// looked through from the last back.
+ghost use mathlib.Core.Path.{_≡_};
+ghost use mathlib.Core.List.{List};
+ghost use Prim.Native.Nat.{ℕ, min};
+ghost use lib.ListN.{getD};
+ghost use Rattle.sheet.specs.Sheet.{Move, Stop};
+ghost use Rattle.sheet.specs.Reading.{isMove, moved, stopped};
+ghost use Rattle.sheet.specs.Tables.{Rows, MoveRow, StopRow};
+
+// The smaller of the two.
+fn at_most(count: usize, most: usize) -> usize
+    ensures { λ r. ⌜ r ≡ min count most ⌝ }
+{
+    if most < count {
+        return most;
+    }
+    count
+}
+
+// Whether a move's row has this from, action and to.
+fn is_move(text: &[u8], row: [usize; 6], from: usize, action: &[u8], to: usize) -> bool
+    ensures { λ r. ⌜ ((m : Move) → MoveRow (now (text .entry)) row m → r ≡ isMove from (now (action .entry)) to m) ⌝ }
+{
+    if from != row[1] {
+        return false;
+    }
+    if to != row[4] {
+        return false;
+    }
+    let a = row[2];
+    let e = row[3];
+    fields::same_bytes(fields::piece(text, a, e), action)
+}
+
+// Whether one of the first `count` moves has this from, action and to.
+pub(crate) fn has_move(
+    text: &[u8],
+    moves: &[[usize; 6]; 256],
+    count: usize,
+    from: usize,
+    action: &[u8],
+    to: usize,
+) -> bool
+    ensures { λ r. ⌜ ((ms : List Move) → Rows (λ i m. MoveRow (now (text .entry)) (getD (now (moves .entry)) i List.[]) m) (min count 256) ms → r ≡ moved from (now (action .entry)) to ms) ⌝ }
+{
+    let mut i = at_most(count, 256);
+    while 0 < i {
+        i -= 1;
+        let row = moves[i];
+        if is_move(text, row, from, action, to) {
+            return true;
+        }
+    }
+    false
+}
+
+// Whether one of the first `count` stops is for this state.
+pub(crate) fn has_stop(stops: &[[usize; 2]; 64], count: usize, state: usize) -> bool
+    ensures { λ r. ⌜ ((ds : List Stop) → Rows (λ i d. StopRow (getD (now (stops .entry)) i List.[]) d) (min count 64) ds → r ≡ stopped state ds) ⌝ }
+{
+    let mut i = at_most(count, 64);
+    while 0 < i {
+        i -= 1;
+        let row = stops[i];
+        if state == row[1] {
+            return true;
+        }
+    }
+    false
+}
