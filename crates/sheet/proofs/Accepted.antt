@@ -1,11 +1,11 @@
 -- What reading tells of a sheet: it is kept, and then it is as `Accepted` says, or it is refused by a number of the table. Each line keeps the
 -- limits, and no move or stop stands before the last feature; so the numbers of features in guards stay declared. Assumes nothing.
-use mathlib.Core.Path.{_≡_, refl}
-use mathlib.Core.Bool.{Bool, true, false, not, _&&_, and-eq-true-iff}
+use mathlib.Core.Path.{_≡_, refl, sym}
+use mathlib.Core.Bool.{Bool, true, false, not, _&&_, and-eq-true-iff, false≢true}
 use mathlib.Core.List.{List, [], _∷_}
-use Prim.Native.Nat.{ℕ, zero, suc, _+_, _^_, _≤_, _<_}
+use Prim.Native.Nat.{ℕ, suc, _+_, _^_, _≤_, _<_}
 use native.Mathlib.Omega.{arith}
-use borrow.Author.Tests.{eqb-true, leb-true, leb-false, le-leb, ltb-true, not-false}
+use borrow.Author.Tests.{leb-true, leb-false, le-leb, not-false}
 use lib.Dec.{eqb, leb, ltb}
 use lib.ListN.{length}
 use lib.Pow.{pow-mono}
@@ -19,13 +19,13 @@ use Rattle.fields.specs.Cutting.{lines, fields, One, only, notOne, Two, two, no
 use Rattle.fields.proofs.States.{state-small, state-written}
 use Rattle.guards.specs.Guard.{Guard, never, holds, print, Declared, nesting}
 use Rattle.guards.specs.Reading.{Outcome, took, faulty, number, readWhole, GoodNames}
-use Rattle.guards.proofs.Names.{by-test}
 use Rattle.guards.proofs.Exactly.{whole-exactly, whole-faulty}
-use Rattle.sheet.specs.declared.LineKind.{LineKind}
 use Rattle.sheet.specs.Sheet.{Feature, Sheet, names, isValid}
-use Rattle.sheet.specs.Reading.{State, Answer, kept, refused, refuseIf, stated, guarded, goOn, isKnown, moved, stopped, ftsWord, featureWord, validWord, startWord, moveWord, stopWord, editionWord, ftsLine, featureLine, validLine, startLine, guardedMove, moveLine, stopLine, kindIn, byKind, byWord, readLine, none, ended, readLines, nothing, last, readSheet}
+use Rattle.sheet.specs.Reading.{State, Answer, kept, refused, refuseIf, stated, guarded, goOn, isKnown, moved, stopped, editionWord, ftsLine, featureLine, validLine, startLine, guardedMove, moveLine, stopLine, kindIn, byKind, byWord, readLine, none, ended, readLines, nothing, last, readSheet}
 use Rattle.sheet.specs.Accepted.{GoodGuard, GoodMoves, GoodStops, Accepted}
 use Rattle.sheet.proofs.Rows.{names-length}
+use Rattle.sheet.proofs.LineKinds.{by-kind}
+use Rattle.sheet.proofs.ValidProducts.{some, valid-both}
 
 -- a number of the table of refusals
 abbrev InTable : ℕ → Type 0
@@ -53,14 +53,16 @@ pub told-if : {A : Type 0} {P : A → Type 0} {a : Answer A} (e n : ℕ) (t : Bo
 told-if e n true h f = refuses e n h
 told-if e n false h f = f refl
 
-pub told-state : {P : State → Type 0} {k : ℕ → Answer State} (n : ℕ) (x : List ℕ) → ((q : ℕ) → q ≤ 63 → x ≡ decimal q → Told P (k q)) → Told P (stated n (readState x) k)
+pub told-state : {P : State → Type 0} {k : ℕ → Answer State} (n : ℕ) (x : List ℕ) → ((q : ℕ) → q ≤ 63 → x ≡ decimal q → Told P (k q))
+    → Told P (stated n (readState x) k)
 told-state {P} {k} n x f = go (readState x) refl
   where
     go : (o : Number) → readState x ≡ o → Told P (stated n o k)
     go Bad e = refuses 4 n refl
     go (Of q) e = f q (state-small x e) (state-written x e)
 
-pub told-guard : {P : State → Type 0} {k : Guard → Answer State} (n : ℕ) (fs : List Feature) (x : List ℕ) → ((g : Guard) → GoodGuard (length fs) g → x ≡ print g (names fs) [] → Told P (k g))
+pub told-guard : {P : State → Type 0} {k : Guard → Answer State} (n : ℕ) (fs : List Feature) (x : List ℕ)
+    → ((g : Guard) → GoodGuard (length fs) g → x ≡ print g (names fs) [] → Told P (k g))
     → Told P (guarded n (readWhole (names fs) x) k)
 told-guard {P} {k} n fs x f = go (readWhole (names fs) x) refl
   where
@@ -90,7 +92,7 @@ unfolding Declared nesting
 never-good n = record { declared = tt; nested = omega arith }
 
 not-known : (f : Found) → isKnown f ≡ false → f ≡ Nothing
-not-known (At i) e = let z : _≡_ {A = ℕ} 0 1 = cc in absurd (omega arith)
+not-known (At i) e = absurd (false≢true (sym e))
 not-known Nothing e = refl
 
 module _ (n at : ℕ) (st : State) (sound : Sound st) where
@@ -188,18 +190,10 @@ module _ (n at : ℕ) (st : State) (sound : Sound st) where
         };
       }))))
 
-  section-is : (k : ℕ) (t : Bool) → (eqb (st .section) k && t) ≡ true → st .section ≡ k
-  section-is k t e = eqb-true (st .section) k (and-eq-true-iff (eqb (st .section) k) t .0 e .0)
-
   kind-told : (w : List ℕ) (fs : List (List ℕ)) → Told Sound (byKind (kindIn (st .section) w) n at st fs)
   kind-told w fs =
-      let P : LineKind → Type 0 = λ k. Told Sound (byKind k n at st fs) in
-      by-test P (eqb (st .section) 0 && sameBytes w ftsWord) (λ e. let z = section-is 0 (sameBytes w ftsWord) e in fts-told (omega arith) (asOne fs))
-      (λ x. by-test P (eqb (st .section) 1 && sameBytes w featureWord) (λ e. let z = section-is 1 (sameBytes w featureWord) e in feature-told (omega arith) (asOne fs))
-      (λ x. by-test P (eqb (st .section) 1 && sameBytes w validWord) (λ e. valid-told (asOne fs))
-      (λ x. by-test P (eqb (st .section) 2 && sameBytes w startWord) (λ e. start-told (asOne fs))
-      (λ x. by-test P (leb 3 (st .section) && sameBytes w stopWord) (λ e. stop-told (asTwo fs))
-      (λ x. by-test P (eqb (st .section) 3 && sameBytes w moveWord) (λ e. move-told (asFour fs)) (λ x. refuses 3 n refl))))))
+      by-kind (st .section) w (λ k. Told Sound (byKind k n at st fs)) (λ e x. fts-told (omega arith) (asOne fs)) (λ e x. feature-told (omega arith) (asOne fs))
+      (λ e x. valid-told (asOne fs)) (λ e x. start-told (asOne fs)) (λ e x. stop-told (asTwo fs)) (λ e x. move-told (asFour fs)) (refuses 3 n refl)
 
 word-told : (n at : ℕ) (st : State) → Sound st → (fs : List (List ℕ)) → Told Sound (byWord n at st fs)
 word-told n at st sound [] = refuses 3 n refl
@@ -207,18 +201,10 @@ word-told n at st sound (w ∷ fs) = kind-told n (at + length w + 1) st sound w 
 
 -- ---- all lines, and the end
 
-pub told-on : {P : State → Type 0} {Q : Sheet → Type 0} {a : Answer State} {k : State → Answer Sheet} → Told P a → ((st : State) → P st → Told Q (k st)) → Told Q (goOn a k)
+pub told-on : {P : State → Type 0} {Q : Sheet → Type 0} {a : Answer State} {k : State → Answer Sheet} → Told P a → ((st : State) → P st → Told Q (k st))
+    → Told Q (goOn a k)
 told-on (keeps {x = st} p) f = f st p
 told-on (refuses e n h) f = refuses e n h
-
-some : (t : ℕ → Bool) (n : ℕ) → none t n ≡ false → (p : ℕ) × (t p ≡ true)
-unfolding none
-some t zero e = let z : _≡_ {A = ℕ} 0 1 = cc in absurd (omega arith)
-some t (suc n) e = go (t n) refl e (some t n)
-  where
-    go : (b : Bool) → t n ≡ b → (not b && none t n) ≡ false → (none t n ≡ false → (p : ℕ) × (t p ≡ true)) → (p : ℕ) × (t p ≡ true)
-    go true h q below = (n, h)
-    go false h q below = below q
 
 ended-told : (n : ℕ) (st : State) → Sound st → Told Accepted (ended n st)
 unfolding ended
@@ -264,7 +250,6 @@ refused-number s q = told-refused (sheet-told s) q
 -- a valid product of such a sheet is a product of its features, and so below 1,024
 pub valid-small : {r : Sheet} {p : ℕ} → Accepted r → isValid r p ≡ true → (p < 2 ^ length (r .features)) × (holds (r .valid) p ≡ true) × (p < 1024)
 valid-small {r} {p} ok e =
-    let k = and-eq-true-iff (ltb p (2 ^ length (r .features))) (holds (r .valid) p) .0 e in
-    let small = ltb-true p (2 ^ length (r .features)) (k .0) in
+    let k = valid-both r p e in
     let most : 2 ^ length (r .features) ≤ 1024 = pow-mono (ok .few-features) in
-    (small, k .1, omega arith)
+    (k .0, k .1, omega arith)

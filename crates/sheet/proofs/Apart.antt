@@ -36,11 +36,11 @@ stopped-none (suc n) = omega (arith, stopped-none n)
 
 -- a further stop changes nothing at another state, and all at its own
 module _ (d : Stop) (ds : List Stop) where
-  stopped-other : (q : ℕ) → (q ≡ d .state → ⊥) → stopped q (d ∷ ds) ≡ stopped q ds
+  pub stopped-other : (q : ℕ) → (q ≡ d .state → ⊥) → stopped q (d ∷ ds) ≡ stopped q ds
   unfolding stopped
   stopped-other q h = ap (λ (t : Bool). t || stopped q ds) (ne-eqb q (d .state) h)
 
-  stopped-here : (q : ℕ) → q ≡ d .state → stopped q (d ∷ ds) ≡ true
+  pub stopped-here : (q : ℕ) → q ≡ d .state → stopped q (d ∷ ds) ≡ true
   unfolding stopped
   stopped-here q h = ap (λ (t : Bool). t || stopped q ds) (eq-eqb q (d .state) h)
 

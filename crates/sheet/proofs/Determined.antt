@@ -14,8 +14,8 @@ use Rattle.guards.specs.Guard.{Guard, holds, Means}
 use Rattle.sheet.specs.declared.Counts.{Counts}
 use Rattle.sheet.specs.declared.SheetRead.{SheetRead}
 use Rattle.sheet.specs.declared.SheetRead.the-variants as whole
-use Rattle.sheet.specs.Sheet.{Feature, Move, Sheet, isValid}
-use Rattle.sheet.specs.Tables.{Tables, Rows, none, next, Table, FeatureRow, MoveRow, StandsFor, ReadsSheet}
+use Rattle.sheet.specs.Sheet.{Sheet, isValid}
+use Rattle.sheet.specs.Tables.{Tables, Rows, none, next, Table, StandsFor, ReadsSheet}
 use Rattle.sheet.proofs.Rows.{rows-length}
 
 -- what every value of the tables' types is, besides the number of rows, which `Table` has: each set is sixteen words
@@ -39,7 +39,8 @@ module _ {A : Type 0} where
         let few = a .few in
         ext-getD [] t u (a .long ∙ sym (b .long))
         (λ i h. let l : i < most = omega (arith, a .long) in
-        ⊎-elim (λ (z : k - i ≡ 0). a .rest i (omega arith) l ∙ sym (b .rest i (omega arith) l)) (λ f. let z = rows-both (a .rows) (b .rows) (omega arith) in one i l (z .0) (z .1) (z .2)) (eq-zero-or-pos (k - i)))
+        ⊎-elim (λ (z : k - i ≡ 0). a .rest i (omega arith) l ∙ sym (b .rest i (omega arith) l))
+        (λ f. let z = rows-both (a .rows) (b .rows) (omega arith) in one i l (z .0) (z .1) (z .2)) (eq-zero-or-pos (k - i)))
 
     pub table-determined : {k m : ℕ} → ((i : ℕ) → i < most → (x : A) → R (getD t i []) x → R (getD u i []) x → getD t i [] ≡ getD u i [])
         → Table R blank most t k xs → Table R blank most u m xs → (k ≡ m) × (t ≡ u)
@@ -47,13 +48,7 @@ module _ {A : Type 0} where
         let e : k ≡ m = sym (rows-length (a .rows)) ∙ rows-length (b .rows) in
         (e, same-table one (rw e at a) b)
 
--- ---- the rows that one element allows
-
-same-feature : {s a b : List ℕ} {f : Feature} → FeatureRow s a f → FeatureRow s b f → a ≡ b
-same-feature p q = p .is ∙ sym (q .is)
-
-same-move : {s a b : List ℕ} {m : Move} → MoveRow s a m → MoveRow s b m → a ≡ b
-same-move p q = p .is ∙ sym (q .is)
+-- ---- the sets that one guard allows
 
 pub same-set : {a b : List ℕ} (g : Guard) → Words a → Words b → Means a g → Means b g → a ≡ b
 unfolding Means
@@ -70,8 +65,8 @@ same-tables p q r t u v i = record { names = p i; valid = q i; moves = r i; move
 
 pub tables-determined : {s : List ℕ} {T U : Tables} {c d : Counts} {r : Sheet} → Typed T → Typed U → StandsFor s T c r → StandsFor s U d r → (c ≡ d) × (T ≡ U)
 tables-determined {T = T} {U} {r = r} x y p q =
-    let features = table-determined (λ i h f. same-feature) (p .filled .names) (q .filled .names) in
-    let moves = table-determined (λ i h m. same-move) (p .filled .moves) (q .filled .moves) in
+    let features = table-determined (λ i h f a b. a .is ∙ sym (b .is)) (p .filled .names) (q .filled .names) in
+    let moves = table-determined (λ i h m a b. a .is ∙ sym (b .is)) (p .filled .moves) (q .filled .moves) in
     let guards = table-determined (λ i h m. same-set (m .guard) (x .moveGuards i h) (y .moveGuards i h)) (p .filled .moveGuards) (q .filled .moveGuards) in
     let stops = table-determined (λ i h d a b. a ∙ sym b) (p .filled .stops) (q .filled .stops) in
     let ends = table-determined (λ i h d. same-set (d .guard) (x .stopGuards i h) (y .stopGuards i h)) (p .filled .stopGuards) (q .filled .stopGuards) in

@@ -1,4 +1,5 @@
 pub mod Rows
+pub mod ValidProducts
 pub mod LineKinds
 pub mod Apart
 pub mod Lines

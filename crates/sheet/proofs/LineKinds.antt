@@ -1,11 +1,16 @@
--- The kind of a line, one law for each return of `line_kind`: the section picks the words that are tried. Assumes nothing.
+-- The kind of a line, one law for each return of `line_kind`: the section picks the words that are tried; and one law over all kinds.
+-- Assumes nothing.
 use mathlib.Core.Path.{_≡_}
-use mathlib.Core.Bool.{Bool, true, false}
+use mathlib.Core.Bool.{Bool, true, false, _&&_, and-eq-true-iff}
 use mathlib.Core.List.{List}
-use Prim.Native.Nat.{ℕ}
+use Prim.Native.Nat.{ℕ, _≤_}
 use native.Mathlib.Omega.{arith}
-use borrow.Author.Tests.{eq-eqb, ne-eqb, le-leb}
+use borrow.Author.Tests.{ne-eqb, eqb-true, le-leb, leb-true}
+use lib.Dec.{eqb, leb}
 use Rattle.fields.specs.Bytes.{sameBytes}
+use Rattle.fields.proofs.Same.{same-true}
+use Rattle.guards.proofs.Names.{by-test}
+use Rattle.sheet.specs.declared.LineKind.{LineKind}
 use Rattle.sheet.specs.declared.LineKind.the-variants.{Fts, Feature, Valid, Start, Move, Stop, Misplaced}
 use Rattle.sheet.specs.Reading.{ftsWord, featureWord, validWord, startWord, moveWord, stopWord, kindIn}
 
@@ -43,3 +48,23 @@ module _ (n : ℕ) (w : List ℕ) where
 
     pub kind-none-stops : sameBytes w stopWord ≡ false → (n ≡ 3 → ⊥) → Misplaced ≡ kindIn n w
     kind-none-stops t h = rw (ne-eqb n 0 a, ne-eqb n 1 b, ne-eqb n 2 c, le-leb 3 n (omega arith), t, ne-eqb n 3 h)
+
+-- ---- all kinds at once
+
+module _ (n : ℕ) (w : List ℕ) where
+  word-is : (t : Bool) (x : List ℕ) → (t && sameBytes w x) ≡ true → (t ≡ true) × (w ≡ x)
+  word-is t x e = let k = and-eq-true-iff t (sameBytes w x) .0 e in (k .0, same-true w x (k .1))
+
+  in-section : {A : Type 0} (k : ℕ) (x : List ℕ) → (n ≡ k → w ≡ x → A) → (eqb n k && sameBytes w x) ≡ true → A
+  in-section k x f e = let z = word-is (eqb n k) x e in f (eqb-true n k (z .0)) (z .1)
+
+  -- what holds of each kind, once its section has come and its word stands there, holds of the line's kind
+  pub by-kind : (P : LineKind → Type 0) → (n ≡ 0 → w ≡ ftsWord → P Fts) → (n ≡ 1 → w ≡ featureWord → P Feature) → (n ≡ 1 → w ≡ validWord → P Valid)
+      → (n ≡ 2 → w ≡ startWord → P Start) → (3 ≤ n → w ≡ stopWord → P Stop) → (n ≡ 3 → w ≡ moveWord → P Move) → P Misplaced → P (kindIn n w)
+  by-kind P fts feature valid start stop move misplaced =
+      by-test P (eqb n 0 && sameBytes w ftsWord) (in-section 0 ftsWord fts)
+      (λ x. by-test P (eqb n 1 && sameBytes w featureWord) (in-section 1 featureWord feature)
+      (λ x. by-test P (eqb n 1 && sameBytes w validWord) (in-section 1 validWord valid)
+      (λ x. by-test P (eqb n 2 && sameBytes w startWord) (in-section 2 startWord start)
+      (λ x. by-test P (leb 3 n && sameBytes w stopWord) (λ e. let z = word-is (leb 3 n) stopWord e in stop (leb-true 3 n (z .0)) (z .1))
+      (λ x. by-test P (eqb n 3 && sameBytes w moveWord) (in-section 3 moveWord move) (λ x. misplaced))))))

@@ -3,28 +3,28 @@
 use mathlib.Core.Path.{_≡_, refl, sym, ap, subst, _∙_}
 use mathlib.Core.Bool.{Bool, true, false, not}
 use mathlib.Core.List.{List, [], _∷_}
-use Prim.Native.Nat.{ℕ, zero, suc, _+_, _≤_, _<_, min}
+use Prim.Native.Nat.{ℕ, _+_, _≤_, _<_, min}
 use native.Mathlib.Omega.{arith}
 use borrow.Author.Tests.{not-true, not-false, le-leb, lt-leb}
 use lib.Dec.{leb}
-use lib.ListN.{length, getD, drop, set}
+use lib.ListN.{length, drop, set}
 use Rattle.products.specs.declared.Found.{Found}
 use Rattle.products.specs.declared.Found.the-variants.{At, Nothing}
 use Rattle.fields.specs.declared.Number.{Number}
 use Rattle.fields.specs.declared.Number.the-variants.{Of, Bad}
 use Rattle.fields.specs.Bytes.{sameBytes, isName, readState}
-use Rattle.fields.specs.Cutting.{fields, One, only, notOne, asOne, IsOne}
+use Rattle.fields.specs.Cutting.{fields, only, notOne, asOne, IsOne}
 use Rattle.guards.specs.Guard.{Guard, Means}
 use Rattle.guards.specs.declared.GuardRead.{GuardRead}
 use Rattle.guards.specs.declared.GuardRead.the-variants as guard
-use Rattle.guards.specs.Reading.{Outcome, took, faulty, number, namesOf, readWhole, Reads}
+use Rattle.guards.specs.Reading.{Outcome, took, number, namesOf, readWhole, Reads}
 use Rattle.guards.proofs.Laws.{reads-as}
 use Rattle.sheet.specs.declared.Progress.{Progress}
 use Rattle.sheet.specs.declared.LineRead.{LineRead}
 use Rattle.sheet.specs.declared.LineRead.the-variants.{Kept, Refused}
-use Rattle.sheet.specs.Sheet.{Feature, names}
-use Rattle.sheet.specs.Reading.{State, Answer, kept, refused, refuseIf, stated, isKnown, editionWord, guarded, keep, withFeature, withValid, withStart, ftsLine, featureLine, validLine, startLine}
-use Rattle.sheet.specs.Tables.{Tables, tables, Lies, FeatureRow, Filled, Stands, Says}
+use Rattle.sheet.specs.Sheet.{Feature, Move, Stop, names}
+use Rattle.sheet.specs.Reading.{State, Answer, kept, refused, editionWord, guarded, keep, withFeature, withValid, withStart, ftsLine, featureLine, validLine, startLine}
+use Rattle.sheet.specs.Tables.{Tables, tables, Lies, Filled, Stands, Says}
 use Rattle.sheet.proofs.Rows.{rows-length, table-put, names-of}
 
 pub refuses : {s : List ℕ} {T : Tables} {r : LineRead} {a : Answer State} {e n : ℕ} → r ≡ Refused e n → a ≡ refused e n → Says s T r a
@@ -93,6 +93,19 @@ names-stand {s} {T} {c} so =
     let e : min (c .features) 10 ≡ c .features = omega arith in
     ap (namesOf s (T .names)) e ∙ names-of s (T .names) (so .filled .names .rows)
 
+-- so a guard that is read over the table's names is read over the features' names
+pub guard-stands : {s : List ℕ} {T : Tables} {c : Progress} {st : State} (x : List ℕ) (rd : GuardRead) (gs : List ℕ) → Stands s T c st
+    → Reads x 0 rd gs (readWhole (namesOf s (T .names) (min (c .features) 10)) x) → Reads x 0 rd gs (readWhole (names (st .sheet .features)) x)
+guard-stands x rd gs so q = subst (λ (ns : List (List ℕ)). Reads x 0 rd gs (readWhole ns x)) (names-stand so) q
+
+pub features-counted : {s : List ℕ} {T : Tables} {c : Progress} {st : State} → Stands s T c st → length (st .sheet .features) ≡ c .features
+features-counted so = rows-length (so .filled .names .rows)
+
+-- the set of valid products has no part in the rows
+pub filled-still : {s : List ℕ} {nm : List (List ℕ)} {v w : List ℕ} {m g t d : List (List ℕ)} {i j k : ℕ} {fs : List Feature} {ms : List Move} {ds : List Stop}
+    → Filled s (tables nm v m g t d) i j k fs ms ds → Filled s (tables nm w m g t d) i j k fs ms ds
+filled-still h = record { names = h .names; moves = h .moves; moveGuards = h .moveGuards; stops = h .stops; stopGuards = h .stopGuards }
+
 module _ (n : ℕ) (ns : List (List ℕ)) (x : List ℕ) (rd : GuardRead) (set : List ℕ) (h : Reads x 0 rd set (readWhole ns x)) (k : Guard → Answer State) where
   pub guard-refused : {e p : ℕ} → rd ≡ guard.Refused e p → guarded n (readWhole ns x) k ≡ refused e n
   guard-refused e = ap (λ (a : Outcome). guarded n a k) (reads-as x 0 set (readWhole ns x) e h .1)
@@ -110,18 +123,15 @@ module _ (l : List ℕ) (o : Bool) (h : IsOne l o) (n at : ℕ) (st : State) {s 
   feature-wrong e z = refuses z (ap (featureLine n at st) (not-one l o h e))
 
   module _ (e : not o ≡ false) {T : Tables} {c : Progress} (so : Stands s T c st) where
-    counted : length (st .sheet .features) ≡ c .features
-    counted = rows-length (so .filled .names .rows)
-
     pub feature-full : {r : LineRead} → 10 ≤ c .features → r ≡ Refused 8 n → Says s T r (featureLine n at st (asOne (fields l)))
     unfolding featureLine
     feature-full m z =
-        let z2 = counted in
+        let few = features-counted so in
         refuses z (ap (featureLine n at st) (is-one l o h e) ∙ rw (le-leb 10 (length (st .sheet .features)) (omega arith)))
 
     module _ (m : c .features < 10) where
       few : leb 10 (length (st .sheet .features)) ≡ false
-      few = let z = counted in lt-leb 10 (length (st .sheet .features)) (omega arith)
+      few = let z = features-counted so in lt-leb 10 (length (st .sheet .features)) (omega arith)
 
       pub feature-bad : {y : Bool} {r : LineRead} → y ≡ isName l → not y ≡ true → r ≡ Refused 4 n → Says s T r (featureLine n at st (asOne (fields l)))
       unfolding featureLine
@@ -144,8 +154,10 @@ module _ (l : List ℕ) (o : Bool) (h : IsOne l o) (n at : ℕ) (st : State) {s 
         unfolding featureLine
         kept-feature a = ap (featureLine n at st) (is-one l o h e) ∙ rw (few, good, here, a)
 
-pub feature-kept : (l : List ℕ) (o : Bool) (h : IsOne l o) (n at : ℕ) (st : State) {s : List ℕ} (e : not o ≡ false) {nm : List (List ℕ)} {v : List ℕ} {m g t d : List (List ℕ)} {c : Progress} (so : Stands s (tables nm v m g t d) c st)
-    → c .features < 10 → {y : Bool} → y ≡ isName l → not y ≡ false → {f : Found} → f ≡ number (namesOf s nm (min (c .features) 10)) l → f ≡ Nothing → Lies s l at
+pub feature-kept : (l : List ℕ) (o : Bool) (h : IsOne l o) (n at : ℕ) (st : State) {s : List ℕ} (e : not o ≡ false)
+    {nm : List (List ℕ)} {v : List ℕ} {m g t d : List (List ℕ)} {c : Progress} (so : Stands s (tables nm v m g t d) c st)
+    → c .features < 10 → {y : Bool} → y ≡ isName l → not y ≡ false → {f : Found} → f ≡ number (namesOf s nm (min (c .features) 10)) l → f ≡ Nothing
+    → Lies s l at
     → Says s (tables (set nm (c .features) (at ∷ (at + length l) ∷ [])) v m g t d)
     (Kept (record { section = 1; valid = c .valid; features = c .features + 1; start = c .start; moves = c .moves; stops = c .stops }))
     (featureLine n at st (asOne (fields l)))
@@ -173,20 +185,19 @@ module _ (l : List ℕ) (o : Bool) (h : IsOne l o) (n : ℕ) (st : State) {s : L
   unfolding validLine
   valid-wrong e z = refuses z (ap (validLine n st) (not-one l o h e))
 
-  module _ (e : not o ≡ false) (rd : GuardRead) (x : List ℕ) {nm : List (List ℕ)} {v : List ℕ} {m g t d : List (List ℕ)} {c : Progress} (so : Stands s (tables nm v m g t d) c st)
-      (q : Reads l 0 rd x (readWhole (namesOf s nm (min (c .features) 10)) l)) where
-    read : Reads l 0 rd x (readWhole (names (st .sheet .features)) l)
-    read = subst (λ (ns : List (List ℕ)). Reads l 0 rd x (readWhole ns l)) (names-stand so) q
-
+  module _ (e : not o ≡ false) (rd : GuardRead) (x : List ℕ) {nm : List (List ℕ)} {v : List ℕ} {m g t d : List (List ℕ)} {c : Progress}
+      (so : Stands s (tables nm v m g t d) c st) (q : Reads l 0 rd x (readWhole (namesOf s nm (min (c .features) 10)) l)) where
     pub valid-refused : {i p : ℕ} {r : LineRead} → rd ≡ guard.Refused i p → r ≡ Refused i n → Says s (tables nm v m g t d) r (validLine n st (asOne (fields l)))
     unfolding validLine
-    valid-refused a z = refuses z (ap (validLine n st) (is-one l o h e) ∙ guard-refused n (names (st .sheet .features)) l rd x read _ a)
+    valid-refused a z = refuses z (ap (validLine n st) (is-one l o h e) ∙ guard-refused n (names (st .sheet .features)) l rd x (guard-stands l rd x so q) _ a)
 
     pub valid-kept : {p : ℕ} → rd ≡ guard.Upto p
-        → Says s (tables nm x m g t d) (Kept (record { section = 2; valid = n; features = c .features; start = c .start; moves = c .moves; stops = c .stops })) (validLine n st (asOne (fields l)))
+        → Says s (tables nm x m g t d)
+        (Kept (record { section = 2; valid = n; features = c .features; start = c .start; moves = c .moves; stops = c .stops }))
+        (validLine n st (asOne (fields l)))
     unfolding validLine
     valid-kept a =
-        let y = guard-taken n (names (st .sheet .features)) l rd x read (λ k. keep 2 n (withValid (st .sheet) k)) a in
+        let y = guard-taken n (names (st .sheet .features)) l rd x (guard-stands l rd x so q) (λ k. keep 2 n (withValid (st .sheet) k)) a in
         keeps (ap (validLine n st) (is-one l o h e) ∙ y .3)
         (record {
           section = refl;
@@ -194,11 +205,5 @@ module _ (l : List ℕ) (o : Bool) (h : IsOne l o) (n : ℕ) (st : State) {s : L
           start = so .start;
           valid = y .2;
           apart = so .apart;
-          filled = record {
-            names = so .filled .names;
-            moves = so .filled .moves;
-            moveGuards = so .filled .moveGuards;
-            stops = so .filled .stops;
-            stopGuards = so .filled .stopGuards;
-          };
+          filled = filled-still (so .filled);
         })

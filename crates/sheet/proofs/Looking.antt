@@ -1,18 +1,19 @@
 -- Looking through the rows of a table from the last back, for a test f of the list that is an "or" over its elements. While the loop runs, the
 -- test of the whole list is the test of the rows not yet looked at. Assumes nothing.
 use mathlib.Core.Path.{_≡_, refl, sym, ap, _∙_}
-use mathlib.Core.Bool.{Bool, true, false, _&&_, _||_}
+use mathlib.Core.Bool.{Bool, true, false}
 use mathlib.Core.List.{List, [], _∷_}
-use Prim.Native.Nat.{ℕ, _+_, _-_, _≤_, _<_}
+use Prim.Native.Nat.{ℕ, _-_, _≤_, _<_}
 use native.Mathlib.Omega.{arith}
-use borrow.Author.Tests.{eq-eqb, ne-eqb, le-leb}
+use borrow.Author.Tests.{eq-eqb, ne-eqb}
 use lib.Dec.{eqb}
-use lib.ListN.{length, getD}
+use lib.ListN.{getD}
 use Rattle.fields.specs.Bytes.{pieceOf, sameBytes}
 use Rattle.sheet.specs.Sheet.{Move, Stop}
 use Rattle.sheet.specs.Reading.{isMove, moved, stopped}
-use Rattle.sheet.specs.Tables.{Lies, Rows, MoveRow, StopRow}
-use Rattle.sheet.proofs.Rows.{rows-split, rows-none}
+use Rattle.sheet.specs.Tables.{Rows, MoveRow, StopRow}
+use Rattle.sheet.proofs.Rows.{rows-split, rows-none, piece-lies}
+use Rattle.sheet.proofs.Apart.{stopped-here, stopped-other}
 
 pub record Looked {A : Type 0} (R : ℕ → A → Type 0) (f : List A → Bool) (n i : ℕ) : Type 0 where
   pub most : i ≤ n
@@ -53,22 +54,16 @@ module _ (row : List ℕ) (d : Stop) (ds : List Stop) (h : StopRow row d) where
   state-is = ap (λ (r : List ℕ). getD r 1 0) h
 
   pub stop-found : {q : ℕ} → q ≡ getD row 1 0 → stopped q (d ∷ ds) ≡ true
-  unfolding stopped
-  stop-found {q} e = rw (eq-eqb q (d .state) (e ∙ state-is))
+  stop-found {q} e = stopped-here d ds q (e ∙ state-is)
 
   pub stop-more : {q : ℕ} → (q ≡ getD row 1 0 → ⊥) → stopped q (d ∷ ds) ≡ stopped q ds
-  unfolding stopped
-  stop-more {q} e = rw (ne-eqb q (d .state) (λ z. e (z ∙ sym state-is)))
+  stop-more {q} e = stopped-other d ds q (λ z. e (z ∙ sym state-is))
 
 pub stop-none : (q : ℕ) → stopped q [] ≡ false
 unfolding stopped
 stop-none q = refl
 
 -- ---- moves
-
-pub piece-lies : {s x : List ℕ} {p : ℕ} → Lies s x p → pieceOf s p (p + length x) ≡ x
-unfolding pieceOf
-piece-lies {s} {x} {p} h = rw (le-leb p (p + length x) (omega arith), le-leb (p + length x) (length s) (h .within)) (h .is)
 
 module _ (from : ℕ) (action : List ℕ) (to : ℕ) {s row : List ℕ} {m : Move} (h : MoveRow s row m) where
   pub from-other : (from ≡ getD row 1 0 → ⊥) → false ≡ isMove from action to m
@@ -81,7 +76,8 @@ module _ (from : ℕ) (action : List ℕ) (to : ℕ) {s row : List ℕ} {m : Mov
     pub to-other : (to ≡ getD row 4 0 → ⊥) → false ≡ isMove from action to m
     to-other f = rw (same-from, ne-eqb to (m .to) (λ z. f (z ∙ sym (ap (λ (r : List ℕ). getD r 4 0) (h .is)))))
 
-    pub action-same : to ≡ getD row 4 0 → {x : List ℕ} → x ≡ pieceOf s (getD row 2 0) (getD row 3 0) → {r : Bool} → r ≡ sameBytes x action → r ≡ isMove from action to m
+    pub action-same : to ≡ getD row 4 0 → {x : List ℕ} → x ≡ pieceOf s (getD row 2 0) (getD row 3 0) → {r : Bool} → r ≡ sameBytes x action
+        → r ≡ isMove from action to m
     action-same f {x} g {r} q =
         let y : x ≡ m .action = g ∙ ap (λ (z : List ℕ). pieceOf s (getD z 2 0) (getD z 3 0)) (h .is) ∙ piece-lies (h .lies) in
         rw (same-from, eq-eqb to (m .to) (f ∙ ap (λ (r : List ℕ). getD r 4 0) (h .is))) (q ∙ ap (λ (z : List ℕ). sameBytes z action) y)

@@ -3,7 +3,7 @@
 use mathlib.Core.Path.{_≡_, refl, sym, ap, subst, _∙_}
 use mathlib.Core.Bool.{Bool, true, false, not}
 use mathlib.Core.List.{List, [], _∷_}
-use Prim.Native.Nat.{ℕ, zero, suc, _+_, _-_, _≤_, _<_, min}
+use Prim.Native.Nat.{ℕ, _+_, _-_, _≤_, _<_, min}
 use native.Mathlib.Omega.{arith}
 use borrow.Author.Tests.{not-true, not-false, le-leb, lt-leb}
 use lib.Dec.{leb}
@@ -16,24 +16,24 @@ use Rattle.fields.specs.declared.TwoFields.the-variants.{Parted, NotTwo}
 use Rattle.fields.specs.declared.FourFields.{FourFields}
 use Rattle.fields.specs.declared.FourFields.the-variants.{Ends, NotFour}
 use Rattle.fields.specs.Bytes.{part, sameBytes, isAction, readState}
-use Rattle.fields.specs.Cutting.{fields, Two, two, notTwo, Four, four, notFour, asTwo, asFour, CutsTwo, CutsFour}
+use Rattle.fields.specs.Cutting.{fields, two, four, asTwo, asFour, CutsTwo, CutsFour}
 use Rattle.fields.proofs.Parts.{part-length, part-part}
 use Rattle.fields.proofs.Same.{same-true, same-false}
 use Rattle.fields.proofs.States.{state-small}
 use Rattle.guards.specs.declared.GuardRead.{GuardRead}
 use Rattle.guards.specs.declared.GuardRead.the-variants as guard
-use Rattle.guards.specs.Guard.{Guard, never, always, feature, neg, chain, choice, Means}
-use Rattle.guards.specs.Reading.{Outcome, took, namesOf, readWhole, Reads}
+use Rattle.guards.specs.Guard.{Guard, never, always, feature, neg, chain, choice}
+use Rattle.guards.specs.Reading.{took, namesOf, readWhole, Reads}
 use Rattle.guards.proofs.Laws.{plain-yes, plain-no}
 use Rattle.sheet.specs.declared.Progress.{Progress}
 use Rattle.sheet.specs.declared.LineRead.{LineRead}
 use Rattle.sheet.specs.declared.LineRead.the-variants.{Kept, Refused}
 use Rattle.sheet.specs.Sheet.{Move, Stop, names}
-use Rattle.sheet.specs.Reading.{State, Answer, kept, refused, refuseIf, stated, guarded, moved, stopped, keep, withMove, withStop, guardedMove, moveLine, stopLine}
+use Rattle.sheet.specs.Reading.{State, Answer, refuseIf, guarded, moved, stopped, keep, withMove, withStop, guardedMove, moveLine, stopLine}
 use Rattle.sheet.specs.Tables.{Tables, tables, Lies, Rows, plainOf, MoveRow, StopRow, Stands, Says}
 use Rattle.sheet.proofs.Rows.{rows-length, table-put}
 use Rattle.sheet.proofs.Apart.{stops-fit}
-use Rattle.sheet.proofs.Lines.{refuses, keeps, names-stand, guard-refused, guard-taken}
+use Rattle.sheet.proofs.Lines.{refuses, keeps, guard-stands, guard-refused, guard-taken}
 
 -- ---- a guard written `1`
 
@@ -74,16 +74,15 @@ lies-part {s} {l} {at} b e h k m =
 
 -- ---- `move`: the guard, the repeat and the row
 
-module _ (n : ℕ) (st : State) (from : ℕ) (action : List ℕ) (place to : ℕ) (x : List ℕ) (rd : GuardRead) (gs : List ℕ) {s : List ℕ} {nm : List (List ℕ)} {v : List ℕ} {m g t d : List (List ℕ)} {c : Progress}
+module _ (n : ℕ) (st : State) (from : ℕ) (action : List ℕ) (place to : ℕ) (x : List ℕ) (rd : GuardRead) (gs : List ℕ)
+    {s : List ℕ} {nm : List (List ℕ)} {v : List ℕ} {m g t d : List (List ℕ)} {c : Progress}
     (so : Stands s (tables nm v m g t d) c st) (q : Reads x 0 rd gs (readWhole (namesOf s nm (min (c .features) 10)) x)) where
-  read : Reads x 0 rd gs (readWhole (names (st .sheet .features)) x)
-  read = subst (λ (ns : List (List ℕ)). Reads x 0 rd gs (readWhole ns x)) (names-stand so) q
-
   pub move-refused : {i p : ℕ} {r : LineRead} → rd ≡ guard.Refused i p → r ≡ Refused i n → Says s (tables nm v m g t d) r (guardedMove n st from action place to x)
   unfolding guardedMove
-  move-refused a z = refuses z (guard-refused n (names (st .sheet .features)) x rd gs read _ a)
+  move-refused a z = refuses z (guard-refused n (names (st .sheet .features)) x rd gs (guard-stands x rd gs so q) _ a)
 
-  module _ {p : ℕ} (a : rd ≡ guard.Upto p) {y : Bool} (has : (ms : List Move) → Rows (λ i k. MoveRow s (getD m i []) k) (min (c .moves) 256) ms → y ≡ moved from action to ms) where
+  module _ {p : ℕ} (a : rd ≡ guard.Upto p) {y : Bool}
+      (has : (ms : List Move) → Rows (λ i k. MoveRow s (getD m i []) k) (min (c .moves) 256) ms → y ≡ moved from action to ms) where
     after : Guard → Answer State
     after k =
         refuseIf (moved from action to (st .sheet .moves)) 9 n
@@ -98,7 +97,7 @@ module _ (n : ℕ) (st : State) (from : ℕ) (action : List ℕ) (place to : ℕ
     pub move-repeat : {r : LineRead} → y ≡ true → r ≡ Refused 9 n → Says s (tables nm v m g t d) r (guardedMove n st from action place to x)
     unfolding guardedMove after
     move-repeat e z =
-        let w = guard-taken n (names (st .sheet .features)) x rd gs read after a in
+        let w = guard-taken n (names (st .sheet .features)) x rd gs (guard-stands x rd gs so q) after a in
         refuses z (w .3 ∙ rw (sym repeats ∙ e))
 
     pub move-kept : {u : ℕ} → y ≡ false → c .moves < 256 → Lies s action place → u ≡ oneIf (sameBytes x (49 ∷ []))
@@ -107,7 +106,7 @@ module _ (n : ℕ) (st : State) (from : ℕ) (action : List ℕ) (place to : ℕ
         (guardedMove n st from action place to x)
     unfolding guardedMove after
     move-kept {u} e few lies f =
-        let w = guard-taken n (names (st .sheet .features)) x rd gs read after a in
+        let w = guard-taken n (names (st .sheet .features)) x rd gs (guard-stands x rd gs so q) after a in
         let k : u ≡ plainOf (w .0) = f ∙ plain-is (names (st .sheet .features)) x (w .1) in
         keeps (w .3 ∙ rw (sym repeats ∙ e))
         (record {
@@ -209,8 +208,9 @@ module _ (l : List ℕ) (n : ℕ) (st : State) where
     unfolding stopLine
     stop-state f1 g1 z = let y : readState (part l 0 b) ≡ Bad = sym g1 ∙ f1 in refuses z (rw (halves, y))
 
-    module _ {q : Number} {w : ℕ} (f1 : q ≡ Of w) (g1 : q ≡ readState (part l 0 b)) (rd : GuardRead) (gs : List ℕ) {s : List ℕ} {nm : List (List ℕ)} {v : List ℕ} {m g t d : List (List ℕ)} {c : Progress}
-        (so : Stands s (tables nm v m g t d) c st) (k : Reads (part l (b + 1) (length l)) 0 rd gs (readWhole (namesOf s nm (min (c .features) 10)) (part l (b + 1) (length l)))) where
+    module _ {q : Number} {w : ℕ} (f1 : q ≡ Of w) (g1 : q ≡ readState (part l 0 b)) (rd : GuardRead) (gs : List ℕ)
+        {s : List ℕ} {nm : List (List ℕ)} {v : List ℕ} {m g t d : List (List ℕ)} {c : Progress} (so : Stands s (tables nm v m g t d) c st)
+        (k : Reads (part l (b + 1) (length l)) 0 rd gs (readWhole (namesOf s nm (min (c .features) 10)) (part l (b + 1) (length l)))) where
       x : List ℕ
       x = part l (b + 1) (length l)
 
@@ -219,7 +219,7 @@ module _ (l : List ℕ) (n : ℕ) (st : State) where
 
       told : Reads x 0 rd gs (readWhole (names (st .sheet .features)) x)
       unfolding x
-      told = subst (λ (ns : List (List ℕ)). Reads (part l (b + 1) (length l)) 0 rd gs (readWhole ns (part l (b + 1) (length l)))) (names-stand so) k
+      told = guard-stands (part l (b + 1) (length l)) rd gs so k
 
       then : Guard → Answer State
       then z = refuseIf (stopped w (st .sheet .stops)) 9 n (keep 4 (st .validLine) (withStop (st .sheet) (record { line = n; state = w; guard = z })))
@@ -231,7 +231,8 @@ module _ (l : List ℕ) (n : ℕ) (st : State) where
       pub stop-refused : {i p : ℕ} {r : LineRead} → rd ≡ guard.Refused i p → r ≡ Refused i n → Says s (tables nm v m g t d) r (stopLine n st (asTwo (fields l)))
       stop-refused a z = refuses z (begins ∙ guard-refused n (names (st .sheet .features)) x rd gs told then a)
 
-      module _ {p : ℕ} (a : rd ≡ guard.Upto p) {y : Bool} (has : (ds : List Stop) → Rows (λ i z. StopRow (getD t i []) z) (min (c .stops) 64) ds → y ≡ stopped w ds) where
+      module _ {p : ℕ} (a : rd ≡ guard.Upto p) {y : Bool}
+          (has : (ds : List Stop) → Rows (λ i z. StopRow (getD t i []) z) (min (c .stops) 64) ds → y ≡ stopped w ds) where
         comes : y ≡ stopped w (st .sheet .stops)
         comes =
             let few = so .filled .stops .few in

@@ -1,23 +1,21 @@
 -- The text of an accepted sheet is read, and what is read says the same: only the lines' numbers and the places of names are the text's own.
 -- The rows of the text are read one by one, and after each the state says what the rows so far say. Assumes nothing.
 use mathlib.Core.Path.{_≡_, refl, sym, ap, subst, _∙_}
-use mathlib.Core.Bool.{Bool, true, false, not, _&&_, and-false, and-eq-true-iff}
+use mathlib.Core.Bool.{true}
 use mathlib.Core.List.{List, [], _∷_, _++_, map, List·Memᴰ, Memᴰ·map, Memᴰ·of-map}
-use mathlib.Core.Logic.{⊎-elim}
-use Prim.Native.Nat.{ℕ, zero, suc, _+_, _^_, _≤_, _<_}
-use native.Mathlib.Nat.{eq-or-lt-of-le}
+use Prim.Native.Nat.{ℕ, _+_, _≤_}
 use native.Mathlib.Omega.{arith}
-use borrow.Author.Tests.{le-ltb, ltb-true}
-use lib.Dec.{ltb}
+use borrow.Author.Tests.{le-ltb}
 use lib.ListN.{length, length-map}
 use Rattle.fields.specs.Cutting.{lines, join, close, Clear, AllClear}
 use Rattle.fields.proofs.Cuts.{lines-closed}
-use Rattle.guards.specs.Guard.{Guard, never, holds}
+use Rattle.guards.specs.Guard.{Guard, never}
 use Rattle.guards.specs.Reading.{GoodNames}
 use Rattle.sheet.specs.Sheet.{Feature, Move, Stop, Sheet, names, isValid}
-use Rattle.sheet.specs.Reading.{State, Answer, kept, goOn, moved, stopped, withFeature, withValid, withStart, withMove, withStop, readLine, none, ended, readLines, nothing, last, readSheet}
+use Rattle.sheet.specs.Reading.{State, Answer, kept, goOn, moved, stopped, withFeature, withValid, withStart, withMove, withStop, readLine, ended, readLines, nothing, last, readSheet}
 use Rattle.sheet.specs.Accepted.{GoodGuard, GoodMoves, GoodStops, Accepted}
 use Rattle.sheet.proofs.Rows.{names-length}
+use Rattle.sheet.proofs.ValidProducts.{valid-found}
 use Rattle.sheet.proofs.Written.{Plain, ftsFields, featureFields, validFields, startFields, moveFields, stopFields, fts-plain, feature-plain, valid-plain, start-plain, move-plain, stop-plain, fts-kept, feature-kept, valid-kept, start-kept, move-kept, stop-kept}
 
 -- ---- the text of a sheet
@@ -130,7 +128,8 @@ pub alike-stop : {r s : Sheet} {d : Stop} → Alike r s → List·Memᴰ d (r .s
 alike-stop {r} {s} {d} e i = Memᴰ·of-map bareStop (s .stops) (subst (λ (x : Sheet). List·Memᴰ (bareStop d) (x .stops)) (e .is) (Memᴰ·map bareStop i))
 
 -- the text does not tell the numbers and places apart
-bare-order : {A : Type 0} (row : A → Fields) (f : A → A) → ((x : A) → row (f x) ≡ row x) → (xs : List A) (rest : List Fields) → inOrder row (map f xs) rest ≡ inOrder row xs rest
+bare-order : {A : Type 0} (row : A → Fields) (f : A → A) → ((x : A) → row (f x) ≡ row x) → (xs : List A) (rest : List Fields)
+    → inOrder row (map f xs) rest ≡ inOrder row xs rest
 unfolding inOrder
 bare-order row f e [] rest = refl
 bare-order row f e (x ∷ xs) rest = bare-order row f e xs (row (f x) ∷ rest) ∙ ap (λ (r : Fields). inOrder row xs (r ∷ rest)) (e x)
@@ -201,13 +200,6 @@ features-through (f ∷ fs) few good =
       feature-kept n at st (f .name) (q .here) (omega arith) (good .0) (rw (alike-names (q .same)) (good .1)),
     ))
 
-not-none : (t : ℕ → Bool) (p : ℕ) → t p ≡ true → (n : ℕ) → p < n → none t n ≡ false
-unfolding none
-not-none t p e zero h = absurd (omega arith)
-not-none t p e (suc n) h =
-    ⊎-elim (λ (z : p ≡ n). ap (λ (b : Bool). not b && none t n) (ap t (sym z) ∙ e)) (λ (l : p < n). rw (not-none t p e n l) (and-false (not (t n))))
-    (eq-or-lt-of-le (omega arith))
-
 module _ (r : Sheet) (ok : Accepted r) where
   abbrev n : List (List ℕ)
   n = names (r .features)
@@ -248,7 +240,8 @@ module _ (r : Sheet) (ok : Accepted r) where
             (good .0 .from) (good .0 .action) (good .0 .to) (rw (alike-moved (q .same) (m .from) (m .action) (m .to)) (good .1))),
       ))
 
-  all-through : (ds : List Stop) → GoodStops (length (r .features)) ds → Through (λ rest. head (inOrder (moveRow n) (r .moves) (inOrder (stopRow n) ds rest))) (Late (withMoves (r .moves) ds))
+  all-through : (ds : List Stop) → GoodStops (length (r .features)) ds
+      → Through (λ rest. head (inOrder (moveRow n) (r .moves) (inOrder (stopRow n) ds rest))) (Late (withMoves (r .moves) ds))
   unfolding inOrder
   all-through [] good =
       let t = moves-through (r .moves) (ok .few-moves) (ok .moves) in
@@ -270,8 +263,7 @@ module _ (r : Sheet) (ok : Accepted r) where
   end-kept l st q =
       let p = ok .allowed in
       let same : isValid (st .sheet) (p .0) ≡ true = rw (alike-features (q .same), alike-valid (q .same)) (p .1) in
-      let small : p .0 < 2 ^ length (st .sheet .features) = ltb-true (p .0) (2 ^ length (st .sheet .features)) (and-eq-true-iff (ltb (p .0) (2 ^ length (st .sheet .features))) (holds (st .sheet .valid) (p .0)) .0 same .0) in
-      rw (le-ltb (st .section) 3 (q .late), not-none (isValid (st .sheet)) (p .0) same (2 ^ length (st .sheet .features)) small)
+      rw (le-ltb (st .section) 3 (q .late), valid-found (st .sheet) (p .0) same)
 
 -- ---- no row of an accepted sheet has a tab or a line end in a field
 
@@ -294,24 +286,23 @@ unfolding joined
 joined-clear [] p = tt
 joined-clear (row ∷ rows) p = (join-clear row (p .0 .end), joined-clear rows (p .1))
 
+-- the rows for a list, where what is good of the list makes the row of its first element plain
+order-plain : {A : Type 0} {row : A → Fields} {Good : List A → Type 0} → ((x : A) (xs : List A) → Good (x ∷ xs) → Plain (row x) × Good xs)
+    → (xs : List A) → Good xs → (rest : List Fields) → AllPlain rest → AllPlain (inOrder row xs rest)
+unfolding inOrder
+order-plain f [] good rest p = p
+order-plain {row = row} f (x ∷ xs) good rest p = let k = f x xs good in order-plain f xs (k .1) (row x ∷ rest) (k .0, p)
+
 features-plain : (fs : List Feature) → GoodNames (names fs) → (rest : List Fields) → AllPlain rest → AllPlain (inOrder featureRow fs rest)
-unfolding inOrder names
-features-plain [] good rest p = p
-features-plain (f ∷ fs) good rest p = features-plain fs (good .2) (featureRow f ∷ rest) (feature-plain (good .0), p)
+unfolding names
+features-plain = order-plain {Good = λ fs. GoodNames (names fs)} (λ f fs good. (feature-plain (good .0), good .2))
 
 module _ (fs : List Feature) (names-good : GoodNames (names fs)) where
   moves-plain : (ms : List Move) → GoodMoves (length fs) ms → (rest : List Fields) → AllPlain rest → AllPlain (inOrder (moveRow (names fs)) ms rest)
-  unfolding inOrder
-  moves-plain [] good rest p = p
-  moves-plain (m ∷ ms) good rest p =
-      moves-plain ms (good .2) (moveRow (names fs) m ∷ rest)
-      (move-plain fs names-good (good .0 .guard) (m .from) (m .to) (good .0 .action), p)
+  moves-plain = order-plain {Good = GoodMoves (length fs)} (λ m ms good. (move-plain fs names-good (good .0 .guard) (m .from) (m .to) (good .0 .action), good .2))
 
   stops-plain : (ds : List Stop) → GoodStops (length fs) ds → (rest : List Fields) → AllPlain rest → AllPlain (inOrder (stopRow (names fs)) ds rest)
-  unfolding inOrder
-  stops-plain [] good rest p = p
-  stops-plain (d ∷ ds) good rest p =
-      stops-plain ds (good .2) (stopRow (names fs) d ∷ rest) (stop-plain fs names-good (good .0 .guard) (d .state), p)
+  stops-plain = order-plain {Good = GoodStops (length fs)} (λ d ds good. (stop-plain fs names-good (good .0 .guard) (d .state), good .2))
 
 pub rows-plain : {r : Sheet} → Accepted r → AllPlain (rowsOf r)
 rows-plain {r} ok =

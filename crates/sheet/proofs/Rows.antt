@@ -13,7 +13,7 @@ use lib.Seq.{getD-set-same, getD-set-other}
 use Rattle.fields.specs.Bytes.{pieceOf}
 use Rattle.guards.specs.Reading.{namesOf}
 use Rattle.sheet.specs.Sheet.{Feature, names}
-use Rattle.sheet.specs.Tables.{Rows, none, next, Table, FeatureRow}
+use Rattle.sheet.specs.Tables.{Lies, Rows, none, next, Table, FeatureRow}
 
 -- ---- rows
 
@@ -70,6 +70,12 @@ module _ {A : Type 0} {R : List ℕ → A → Type 0} {blank : List ℕ} {most :
         rest = λ i l m. rw (getD-set-other t k i row [] (omega arith)) (h .rest i (omega arith) m);
       }
 
+-- ---- what lies in the sheet, by its place and the place behind it
+
+pub piece-lies : {s x : List ℕ} {p : ℕ} → Lies s x p → pieceOf s p (p + length x) ≡ x
+unfolding pieceOf
+piece-lies {s} {x} {p} h = rw (le-leb p (p + length x) (omega arith), le-leb (p + length x) (length s) (h .within)) (h .is)
+
 -- ---- the names of the features
 
 pub names-length : (fs : List Feature) → length (names fs) ≡ length fs
@@ -78,10 +84,7 @@ names-length [] = refl
 names-length (f ∷ fs) = ap suc (names-length fs)
 
 names-piece : {s row : List ℕ} {f : Feature} → FeatureRow s row f → pieceOf s (getD row 0 0) (getD row 1 0) ≡ f .name
-unfolding pieceOf
-names-piece {s} {row} {f} h =
-    let within = h .lies .within in
-    rw (h .is, le-leb (f .place) (f .place + length (f .name)) (omega arith), le-leb (f .place + length (f .name)) (length s) within) (h .lies .is)
+names-piece h = rw (h .is) (piece-lies (h .lies))
 
 pub names-of : (s : List ℕ) (t : List (List ℕ)) {k : ℕ} {fs : List Feature} → Rows (λ i f. FeatureRow s (getD t i []) f) k fs → namesOf s t k ≡ names fs
 unfolding namesOf names

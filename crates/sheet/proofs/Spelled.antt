@@ -1,11 +1,11 @@
 -- A sheet that is kept was spelled exactly as its text: each line that is kept is the row of what it adds. So a text is read as a sheet only if it
 -- is that sheet's text. Assumes nothing.
 use mathlib.Core.Path.{_≡_, refl, sym, ap, _∙_}
-use mathlib.Core.Bool.{Bool, true, not, _&&_, and-eq-true-iff}
+use mathlib.Core.Bool.{not}
 use mathlib.Core.List.{List, [], _∷_, _++_}
 use Prim.Native.Nat.{ℕ, zero, suc, _+_, _^_, _≤_}
 use native.Mathlib.Omega.{arith}
-use borrow.Author.Tests.{eqb-true, leb-true, ltb-false, not-false}
+use borrow.Author.Tests.{eqb-true, ltb-false, not-false}
 use lib.Dec.{eqb, leb, ltb}
 use lib.ListN.{length}
 use Rattle.fields.specs.Bytes.{sameBytes, isName, isAction}
@@ -13,10 +13,9 @@ use Rattle.fields.specs.Cutting.{lines, fields, join, close, One, only, notOne,
 use Rattle.fields.proofs.Cuts.{join-fields, close-lines}
 use Rattle.fields.proofs.Same.{same-true}
 use Rattle.guards.specs.Reading.{number}
-use Rattle.guards.proofs.Names.{by-test}
-use Rattle.sheet.specs.declared.LineKind.{LineKind}
 use Rattle.sheet.specs.Sheet.{Sheet, names, isValid}
 use Rattle.sheet.specs.Reading.{State, Answer, kept, isKnown, moved, stopped, ftsWord, featureWord, validWord, startWord, moveWord, stopWord, editionWord, ftsLine, featureLine, validLine, startLine, guardedMove, moveLine, stopLine, kindIn, byKind, byWord, readLine, none, ended, readLines, nothing, last, readSheet}
+use Rattle.sheet.proofs.LineKinds.{by-kind}
 use Rattle.sheet.proofs.Accepted.{Told, keeps, refuses, told-kept, told-if, told-state, told-guard, told-on}
 use Rattle.sheet.proofs.Written.{ftsFields, featureFields, validFields, startFields, moveFields, stopFields}
 use Rattle.sheet.proofs.ReadBack.{Fields, featureRow, moveRow, stopRow, inOrder, rowsOf, joined, textOf, Alike, alike-text}
@@ -164,20 +163,10 @@ module _ (n at : ℕ) (st : State) (old : Ordered st) (l w : List ℕ) (fs : Fie
         ordered = record { features = λ u. absurd (omega arith); moves = λ u. absurd (omega arith); stops = λ u. absurd (omega arith) };
       })))))
 
-  -- a test of section and word that came out true
-  word-is : (t : Bool) (x : List ℕ) → (t && sameBytes w x) ≡ true → (t ≡ true) × (w ≡ x)
-  word-is t x e = let k = and-eq-true-iff t (sameBytes w x) .0 e in (k .0, same-true w x (k .1))
-
   kind-follows : Told (Follows st l) (byKind (kindIn (st .section) w) n at st fs)
   kind-follows =
-      let P : LineKind → Type 0 = λ k. Told (Follows st l) (byKind k n at st fs) in
-      by-test P (eqb (st .section) 0 && sameBytes w ftsWord) (λ e. let z = word-is (eqb (st .section) 0) ftsWord e in fts-follows (eqb-true (st .section) 0 (z .0)) (z .1))
-      (λ x. by-test P (eqb (st .section) 1 && sameBytes w featureWord) (λ e. let z = word-is (eqb (st .section) 1) featureWord e in feature-follows (eqb-true (st .section) 1 (z .0)) (z .1))
-      (λ x. by-test P (eqb (st .section) 1 && sameBytes w validWord) (λ e. let z = word-is (eqb (st .section) 1) validWord e in valid-follows (eqb-true (st .section) 1 (z .0)) (z .1))
-      (λ x. by-test P (eqb (st .section) 2 && sameBytes w startWord) (λ e. let z = word-is (eqb (st .section) 2) startWord e in start-follows (eqb-true (st .section) 2 (z .0)) (z .1))
-      (λ x. by-test P (leb 3 (st .section) && sameBytes w stopWord) (λ e. let z = word-is (leb 3 (st .section)) stopWord e in stop-follows (leb-true 3 (st .section) (z .0)) (z .1))
-      (λ x. by-test P (eqb (st .section) 3 && sameBytes w moveWord) (λ e. let z = word-is (eqb (st .section) 3) moveWord e in move-follows (eqb-true (st .section) 3 (z .0)) (z .1))
-      (λ x. refuses 3 n refl))))))
+      by-kind (st .section) w (λ k. Told (Follows st l) (byKind k n at st fs)) fts-follows feature-follows valid-follows start-follows stop-follows move-follows
+      (refuses 3 n refl)
 
 word-follows : (n at : ℕ) (st : State) → Ordered st → (l : List ℕ) (fs : Fields) → l ≡ join fs → Told (Follows st l) (byWord n at st fs)
 word-follows n at st old l [] is = refuses 3 n refl

@@ -1,25 +1,23 @@
 -- A line by its word, the end of the sheet, and the loop over the lines: what is left to read, after the lines so far, is what the whole sheet
 -- reads as. Assumes nothing.
 use mathlib.Core.Path.{_≡_, refl, sym, ap, subst, _∙_}
-use mathlib.Core.Bool.{Bool, true, false, not, _&&_, and-false}
-use mathlib.Core.Logic.{⊎-elim}
+use mathlib.Core.Bool.{Bool, true, false, _&&_}
 use mathlib.Core.List.{List, [], _∷_}
-use Prim.Native.Nat.{ℕ, zero, suc, _+_, _-_, _^_, _≤_, _<_, min}
-use native.Mathlib.Nat.{eq-or-lt-of-le}
+use Prim.Native.Nat.{ℕ, suc, _+_, _-_, _^_, _≤_, _<_, min}
 use native.Mathlib.Omega.{arith}
-use borrow.Author.Tests.{eq-eqb, ne-eqb, lt-ltb, le-ltb, ltb-true}
-use lib.Dec.{ltb, eqb}
-use lib.ListN.{length, getD, drop, replicate}
+use borrow.Author.Tests.{eq-eqb, ne-eqb, lt-ltb, le-ltb}
+use lib.Dec.{ltb}
+use lib.ListN.{length, getD, drop}
 use lib.Pow.{pow-mono}
 use Rattle.products.specs.declared.Found.{Found}
 use Rattle.products.specs.declared.Found.the-variants.{At, Nothing}
 use Rattle.products.specs.Sets.{has, oneIf, In, Finds}
 use Rattle.products.proofs.Laws.{empty-has}
 use Rattle.fields.specs.Bytes.{part, FirstAt}
-use Rattle.fields.specs.Cutting.{lines, fields, asOne, asTwo, asFour}
+use Rattle.fields.specs.Cutting.{lines, fields}
 use Rattle.fields.proofs.Parts.{part-length, part-rest}
 use Rattle.fields.proofs.Cuts.{cut-more, cut-last, first-there, lines-more, lines-none}
-use Rattle.guards.specs.Guard.{Means, holds, never}
+use Rattle.guards.specs.Guard.{Means, holds}
 use Rattle.sheet.specs.declared.Counts.{Counts}
 use Rattle.sheet.specs.declared.Progress.{Progress}
 use Rattle.sheet.specs.declared.LineKind.{LineKind}
@@ -29,9 +27,11 @@ use Rattle.sheet.specs.declared.LineRead.the-variants as line
 use Rattle.sheet.specs.declared.SheetRead.{SheetRead}
 use Rattle.sheet.specs.declared.SheetRead.the-variants as whole
 use Rattle.sheet.specs.Sheet.{Sheet, isValid}
-use Rattle.sheet.specs.Reading.{State, Answer, kept, refused, goOn, kindIn, byKind, byWord, ftsLine, featureLine, validLine, startLine, moveLine, stopLine, readLine, none, ended, readLines, nothing, last, readSheet}
-use Rattle.sheet.specs.Tables.{Tables, tables, blankTables, Lies, Stands, Says, SaysIn, StandsFor, Ends, EndsIn, ReadsSheet}
-use Rattle.sheet.proofs.Rows.{rows-length, table-blank}
+use Rattle.sheet.specs.Reading.{State, Answer, refused, goOn, kindIn, byKind, byWord, ftsLine, featureLine, validLine, startLine, moveLine, stopLine, readLine, ended, readLines, nothing, last, readSheet}
+use Rattle.sheet.specs.Tables.{Tables, tables, blankTables, Lies, Stands, Says, SaysIn, Ends, EndsIn, ReadsSheet}
+use Rattle.sheet.proofs.Rows.{table-blank}
+use Rattle.sheet.proofs.ValidProducts.{none-true, valid-found}
+use Rattle.sheet.proofs.Lines.{features-counted, filled-still}
 use Rattle.sheet.proofs.Moves.{lies-part}
 
 -- ---- a line by its word
@@ -85,18 +85,6 @@ rest-lies s at e h k w m =
 
 -- ---- the end of the sheet
 
-none-true : (t : ℕ → Bool) (n : ℕ) → ((p : ℕ) → p < n → t p ≡ false) → none t n ≡ true
-unfolding none
-none-true t zero f = refl
-none-true t (suc n) f = rw (f n (omega arith), none-true t n (λ p h. f p (omega arith)))
-
-none-false : (t : ℕ → Bool) (n p : ℕ) → p < n → t p ≡ true → none t n ≡ false
-unfolding none
-none-false t zero p h e = absurd (omega arith)
-none-false t (suc n) p h e =
-    ⊎-elim (λ (q : p ≡ n). let z : t n ≡ true = ap t (sym q) ∙ e in rw z) (λ (l : p < n). rw (none-false t n p l e) (and-false (not (t n))))
-    (eq-or-lt-of-le (omega arith))
-
 one-and : (a b : Bool) → min (oneIf b) (oneIf a) ≡ oneIf (a && b)
 one-and true true = refl
 one-and true false = refl
@@ -111,32 +99,26 @@ one-false : (b : Bool) → (oneIf b ≡ 1 → ⊥) → b ≡ false
 one-false true f = absurd (f refl)
 one-false false f = refl
 
-and-left : (a b : Bool) → a && b ≡ true → a ≡ true
-and-left true b e = refl
-and-left false b e = e
-
 module _ {s : List ℕ} {nm : List (List ℕ)} {v : List ℕ} {m g t d : List (List ℕ)} {c : Progress} {st : State} (so : Stands s (tables nm v m g t d) c st) (n : ℕ) where
   pub lacking : {T : Tables} {r : SheetRead} → c .section < 3 → r ≡ whole.Refused 3 n → Ends s T r (ended n st)
   unfolding ended
   lacking l z = let e = so .section in record { is = rw z (rw (lt-ltb (st .section) 3 (omega arith))) }
 
-  module _ (l : 3 ≤ c .section) (x y : List ℕ) (both : (p : ℕ) → p < 1024 → has y p ≡ min (has v p) (has x p)) (all : (p : ℕ) → p < 1024 → has x p ≡ oneIf (ltb p (2 ^ c .features))) where
+  module _ (l : 3 ≤ c .section) (x y : List ℕ) (both : (p : ℕ) → p < 1024 → has y p ≡ min (has v p) (has x p))
+      (all : (p : ℕ) → p < 1024 → has x p ≡ oneIf (ltb p (2 ^ c .features))) where
     come : ltb (st .section) 3 ≡ false
     come = let e = so .section in le-ltb (st .section) 3 (omega arith)
-
-    counted : length (st .sheet .features) ≡ c .features
-    counted = rows-length (so .filled .names .rows)
 
     pub allowed : (p : ℕ) → p < 1024 → has y p ≡ oneIf (isValid (st .sheet) p)
     unfolding Means
     allowed p h =
         both p h
-        ∙ rw (so .valid p h, all p h, sym counted) (one-and (ltb p (2 ^ length (st .sheet .features))) (holds (st .sheet .valid) p))
+        ∙ rw (so .valid p h, all p h, sym (features-counted so)) (one-and (ltb p (2 ^ length (st .sheet .features))) (holds (st .sheet .valid) p))
 
     small : (p : ℕ) → p < 2 ^ length (st .sheet .features) → p < 1024
     small p h =
         let few = so .filled .names .few in
-        let e = counted in
+        let e = features-counted so in
         let k : 2 ^ length (st .sheet .features) ≤ 2 ^ 10 = pow-mono {j = 10} (omega arith) in
         omega arith
 
@@ -155,22 +137,11 @@ module _ {s : List ℕ} {nm : List (List ℕ)} {v : List ℕ} {m g t d : List (L
       finished {q} a =
           let k = subst (Finds _≤_ (In y)) a least in
           let i : isValid (st .sheet) q ≡ true = one-true (isValid (st .sheet) q) (sym (allowed q (k .is .small)) ∙ k .is .is) in
-          let j : q < 2 ^ length (st .sheet .features) = ltb-true q (2 ^ length (st .sheet .features)) (and-left (ltb q (2 ^ length (st .sheet .features))) (holds (st .sheet .valid) q) i) in
           record {
             is = (
               st .sheet,
-              rw (come, none-false (isValid (st .sheet)) (2 ^ length (st .sheet .features)) q j i),
-              record {
-                start = so .start;
-                valid = allowed;
-                filled = record {
-                  names = so .filled .names;
-                  moves = so .filled .moves;
-                  moveGuards = so .filled .moveGuards;
-                  stops = so .filled .stops;
-                  stopGuards = so .filled .stopGuards;
-                };
-              },
+              rw (come, valid-found (st .sheet) q i),
+              record { start = so .start; valid = allowed; filled = filled-still (so .filled) },
             );
           }
 

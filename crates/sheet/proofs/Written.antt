@@ -1,10 +1,10 @@
 -- A well-made line is kept: the fields of each kind of line, joined and read in their section, give the state with that line. Assumes nothing.
-use mathlib.Core.Path.{_≡_, refl, _∙_}
+use mathlib.Core.Path.{_≡_, refl, sym, _∙_}
 use mathlib.Core.Bool.{true, false}
 use mathlib.Core.List.{List, [], _∷_, List·Memᴰ, List·Memᴰ·head, List·Memᴰ·tail}
 use Prim.Native.Nat.{ℕ, _+_, _≤_, _<_}
 use native.Mathlib.Omega.{arith}
-use borrow.Author.Tests.{ne-eqb, le-leb, lt-leb}
+use borrow.Author.Tests.{ne-eqb, lt-leb}
 use lib.ListN.{length}
 use Rattle.text.specs.Text.{decimal}
 use Rattle.text.proofs.Laws.{decimal-digits}
@@ -24,6 +24,7 @@ use Rattle.sheet.specs.Sheet.{Feature, names}
 use Rattle.sheet.specs.Reading.{State, moved, stopped, ftsWord, featureWord, validWord, startWord, moveWord, stopWord, editionWord, withFeature, withValid, withStart, withMove, withStop, keep, ftsLine, featureLine, validLine, startLine, guardedMove, moveLine, stopLine, kindIn, byKind, readLine}
 use Rattle.sheet.specs.Accepted.{GoodGuard}
 use Rattle.sheet.proofs.Rows.{names-length}
+use Rattle.sheet.proofs.LineKinds.{kind-stop}
 
 -- ---- fields without tabs and line ends
 
@@ -143,7 +144,14 @@ module _ (n at : ℕ) (st : State) where
     move-kept from a to e few lf act lt new =
         line-by {k = kind.Move} moveWord (decimal from ∷ a ∷ decimal to ∷ print g (names (st .sheet .features)) [] ∷ []) (rw e)
         (move-plain (st .sheet .features) names-good good from to act)
-        ∙ rw (lt-leb 256 (length (st .sheet .moves)) few, read-written from (omega arith), act, read-written to (omega arith), guard-read (st .sheet .features) names-good good, new)
+        ∙ rw (
+          lt-leb 256 (length (st .sheet .moves)) few,
+          read-written from (omega arith),
+          act,
+          read-written to (omega arith),
+          guard-read (st .sheet .features) names-good good,
+          new,
+        )
 
     pub stop-kept : (q : ℕ) → 3 ≤ st .section → q ≤ 63 → stopped q (st .sheet .stops) ≡ false
         → readLine n at st (join (stopFields (names (st .sheet .features)) q g))
@@ -151,6 +159,6 @@ module _ (n at : ℕ) (st : State) where
     unfolding sameBytes stopLine
     stop-kept q l small new =
         line-by {k = kind.Stop} stopWord (decimal q ∷ print g (names (st .sheet .features)) [] ∷ [])
-        (rw (ne-eqb (st .section) 0 (λ e. omega arith), ne-eqb (st .section) 1 (λ e. omega arith), ne-eqb (st .section) 2 (λ e. omega arith), le-leb 3 (st .section) l))
+        (sym (kind-stop (st .section) stopWord (λ e. omega arith) (λ e. omega arith) (λ e. omega arith) refl))
         (stop-plain (st .sheet .features) names-good good q)
         ∙ rw (read-written q (omega arith), guard-read (st .sheet .features) names-good good, new)

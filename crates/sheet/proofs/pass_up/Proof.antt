@@ -1,8 +1,5 @@
 -- `pass_up` meets its contract: a refusal is told by its number and line. Assumes nothing.
 use borrow.Author.Needs.{needs}
-use mathlib.Core.Path.{_≡_, sym, _∙_}
-use native.Mathlib.Omega.{arith}
-use Prim.Native.Nat.{ℕ}
 use Rattle.sheet.proofs.pass_up.Statement.{statement}
 use Rattle.sheet.proofs.pass_up.Tie as tie
 

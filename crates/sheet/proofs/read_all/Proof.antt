@@ -30,22 +30,46 @@ loop-holds : tie.Need-loop-holds Inv-loop μ-loop
 loop-holds c = going-start _ (c .before .before .before .if1 .left) (c .before .before .if2 .left) (c .if3 .left) (c .before .before .before .before .before .pre)
 
 read-line-requires : tie.Need-read-line-requires Inv-loop μ-loop
-read-line-requires c κs = let z = (line-ends (c .before .before .before .before .before .before .before .before .loop .inv) (c .before .before .before .before .before .before .before .loop-test .taken) (c .before .before .before .before .before .before .find .ensures)) in (z .0, omega arith)
+read-line-requires c κs =
+    let z = line-ends (c .before .before .before .before .before .before .before .before .loop .inv)
+    (c .before .before .before .before .before .before .before .loop-test .taken) (c .before .before .before .before .before .before .find .ensures) in
+    (z .0, omega arith)
 
 returns-4 : tie.Need-returns-4 Inv-loop μ-loop
-returns-4 c = going-refused (c .before .before .before .before .before .before .before .before .before .before .before .before .loop .inv) (c .before .before .before .before .before .before .before .before .before .before .before .loop-test .taken) (c .before .before .before .before .before .before .before .before .before .before .find .ensures) (c .before .before .before .read-line .ensures) (c .before .enum-told .given .1) (c .pass-up .ensures _ _ (c .before .enum-told .given .1))
+returns-4 c =
+    going-refused (c .before .before .before .before .before .before .before .before .before .before .before .before .loop .inv)
+    (c .before .before .before .before .before .before .before .before .before .before .before .loop-test .taken)
+    (c .before .before .before .before .before .before .before .before .before .before .find .ensures) (c .before .before .before .read-line .ensures)
+    (c .before .enum-told .given .1) (c .pass-up .ensures _ _ (c .before .enum-told .given .1))
 
 add-at : tie.Need-add-at Inv-loop μ-loop
-add-at c = let z = (line-ends (c .before .before .before .before .before .before .before .before .before .before .before .before .loop .inv) (c .before .before .before .before .before .before .before .before .before .before .before .loop-test .taken) (c .before .before .before .before .before .before .before .before .before .before .find .ensures)) in omega arith
+add-at c =
+    let z = line-ends (c .before .before .before .before .before .before .before .before .before .before .before .before .loop .inv)
+    (c .before .before .before .before .before .before .before .before .before .before .before .loop-test .taken)
+    (c .before .before .before .before .before .before .before .before .before .before .find .ensures) in
+    omega arith
 
 add-line : tie.Need-add-line Inv-loop μ-loop
-add-line c = let z = (line-ends (c .before .before .before .before .before .before .before .before .before .before .before .before .loop .inv) (c .before .before .before .before .before .before .before .before .before .before .before .loop-test .taken) (c .before .before .before .before .before .before .before .before .before .before .find .ensures)) in let y = c .before .before .before .before .before .before .before .before .before .before .before .before .loop .inv .few in omega arith
+add-line c =
+    let z = line-ends (c .before .before .before .before .before .before .before .before .before .before .before .before .loop .inv)
+    (c .before .before .before .before .before .before .before .before .before .before .before .loop-test .taken)
+    (c .before .before .before .before .before .before .before .before .before .before .find .ensures) in
+    let y = c .before .before .before .before .before .before .before .before .before .before .before .before .loop .inv .few in
+    omega arith
 
 loop-less : tie.Need-loop-less Inv-loop μ-loop
-loop-less c = let z = (line-ends (c .before .before .before .before .before .before .before .before .before .before .before .before .loop .inv) (c .before .before .before .before .before .before .before .before .before .before .before .loop-test .taken) (c .before .before .before .before .before .before .before .before .before .before .find .ensures)) in omega arith
+loop-less c =
+    let z = line-ends (c .before .before .before .before .before .before .before .before .before .before .before .before .loop .inv)
+    (c .before .before .before .before .before .before .before .before .before .before .before .loop-test .taken)
+    (c .before .before .before .before .before .before .before .before .before .before .find .ensures) in
+    omega arith
 
 loop-again : tie.Need-loop-again Inv-loop μ-loop
-loop-again c = going-on (c .before .before .before .before .before .before .before .before .before .before .before .before .loop .inv) (c .before .before .before .before .before .before .before .before .before .before .before .loop-test .taken) (c .before .before .before .before .before .before .before .before .before .before .find .ensures) (c .before .before .before .read-line .ensures) (c .before .r .given .1)
+loop-again c =
+    going-on (c .before .before .before .before .before .before .before .before .before .before .before .before .loop .inv)
+    (c .before .before .before .before .before .before .before .before .before .before .before .loop-test .taken)
+    (c .before .before .before .before .before .before .before .before .before .before .find .ensures) (c .before .before .before .read-line .ensures)
+    (c .before .r .given .1)
 
 returns-5 : tie.Need-returns-5 Inv-loop μ-loop
 returns-5 c = going-done (c .before .before .before .loop .inv) (c .before .before .loop-test .left) (c .finish .ensures _ _ _ _ _ _)

@@ -5,7 +5,9 @@ use Rattle.sheet.proofs.read_sheet.Statement.{statement}
 use Rattle.sheet.proofs.read_sheet.Tie as tie
 
 returns : tie.Need-returns
-returns c = sheet-refused (c .before .before .before .before .before .before .before .before .before .read-all .ensures) (c .before .before .before .before .before .before .before .enum-told2 .given .1) (c .clear2 .ensures)
+returns c =
+    sheet-refused (c .before .before .before .before .before .before .before .before .before .read-all .ensures)
+    (c .before .before .before .before .before .before .before .enum-told2 .given .1) (c .clear2 .ensures)
 
 returns-2 : tie.Need-returns-2
 returns-2 c = sheet-kept (c .before .before .read-all .ensures) (c .enum-told .given .1)

@@ -14,47 +14,97 @@ returns c = λ st so. refuses (c .refuse .ensures) (line-alone _ (c .before .bef
 
 add-next : tie.Need-add-next
 unfolding part
-add-next c = let z = (rest-lies _ _ _ (c .before .before .before .before .before .before .before .pre .0) (c .before .before .before .before .before .before .before .pre .1) _ (c .before .before .before .if1 .left)) .within in omega arith
+add-next c =
+    let z = (rest-lies _ _ _ (c .before .before .before .before .before .before .before .pre .0)
+    (c .before .before .before .before .before .before .before .pre .1) _ (c .before .before .before .if1 .left)) .within in
+    omega arith
 
 add-next-2 : tie.Need-add-next-2
 unfolding part
-add-next-2 c = let z = (rest-lies _ _ _ (c .before .before .before .before .before .before .before .pre .0) (c .before .before .before .before .before .before .before .pre .1) _ (c .before .before .before .if1 .left)) .within in omega arith
+add-next-2 c =
+    let z = (rest-lies _ _ _ (c .before .before .before .before .before .before .before .pre .0)
+    (c .before .before .before .before .before .before .before .pre .1) _ (c .before .before .before .if1 .left)) .within in
+    omega arith
 
 read-feature-requires : tie.Need-read-feature-requires
 unfolding part
-read-feature-requires c κs = (rest-lies _ _ _ (c .before .before .before .before .before .before .before .before .before .before .pre .0) (c .before .before .before .before .before .before .before .before .before .before .pre .1) _ (c .before .before .before .before .before .before .if1 .left)) .within
+read-feature-requires c κs =
+    (rest-lies _ _ _ (c .before .before .before .before .before .before .before .before .before .before .pre .0)
+    (c .before .before .before .before .before .before .before .before .before .before .pre .1) _
+    (c .before .before .before .before .before .before .if1 .left)) .within
 
 read-move-requires : tie.Need-read-move-requires
 unfolding part
-read-move-requires c κs = (rest-lies _ _ _ (c .before .before .before .before .before .before .before .before .before .before .before .before .pre .0) (c .before .before .before .before .before .before .before .before .before .before .before .before .pre .1) _ (c .before .before .before .before .before .before .before .before .if1 .left)) .within
+read-move-requires c κs =
+    (rest-lies _ _ _ (c .before .before .before .before .before .before .before .before .before .before .before .before .pre .0)
+    (c .before .before .before .before .before .before .before .before .before .before .before .before .pre .1) _
+    (c .before .before .before .before .before .before .before .before .if1 .left)) .within
 
 returns-2 : tie.Need-returns-2
 unfolding part
-returns-2 c = λ st so. line-of _ (c .before .before .before .before .before .before .before .find .ensures) _ _ st (c .before .before .before .before .before .before .if1 .left) (so .section) (c .before .before .before .line-kind .ensures) (c .before .enum-told .given .1) (c .read-fts .ensures _ _ st so)
+returns-2 c =
+    λ st so.
+    line-of _ (c .before .before .before .before .before .before .before .find .ensures) _ _ st
+    (c .before .before .before .before .before .before .if1 .left) (so .section) (c .before .before .before .line-kind .ensures)
+    (c .before .enum-told .given .1) (c .read-fts .ensures _ _ st so)
 
 returns-3 : tie.Need-returns-3
 unfolding part
-returns-3 c = λ st so. line-of _ (c .before .before .before .before .before .before .before .before .find .ensures) _ _ st (c .before .before .before .before .before .before .before .if1 .left) (so .section) (c .before .before .before .before .line-kind .ensures) (c .before .before .enum-told2 .given .1) (c .read-feature .ensures _ _ _ _ _ st so (rest-lies _ _ _ (c .before .before .before .before .before .before .before .before .before .before .before .pre .0) (c .before .before .before .before .before .before .before .before .before .before .before .pre .1) _ (c .before .before .before .before .before .before .before .if1 .left)))
+returns-3 c =
+    λ st so.
+    line-of _ (c .before .before .before .before .before .before .before .before .find .ensures) _ _ st
+    (c .before .before .before .before .before .before .before .if1 .left) (so .section) (c .before .before .before .before .line-kind .ensures)
+    (c .before .before .enum-told2 .given .1)
+    (c .read-feature .ensures _ _ _ _ _ st so
+    (rest-lies _ _ _ (c .before .before .before .before .before .before .before .before .before .before .before .pre .0)
+    (c .before .before .before .before .before .before .before .before .before .before .before .pre .1) _
+    (c .before .before .before .before .before .before .before .if1 .left)))
 
 returns-4 : tie.Need-returns-4
 unfolding part
-returns-4 c = λ st so. line-of _ (c .before .before .before .before .before .before .before .before .before .find .ensures) _ _ st (c .before .before .before .before .before .before .before .before .if1 .left) (so .section) (c .before .before .before .before .before .line-kind .ensures) (c .before .before .before .enum-told3 .given .1) (c .read-valid .ensures _ _ _ _ st so)
+returns-4 c =
+    λ st so.
+    line-of _ (c .before .before .before .before .before .before .before .before .before .find .ensures) _ _ st
+    (c .before .before .before .before .before .before .before .before .if1 .left) (so .section)
+    (c .before .before .before .before .before .line-kind .ensures) (c .before .before .before .enum-told3 .given .1)
+    (c .read-valid .ensures _ _ _ _ st so)
 
 returns-5 : tie.Need-returns-5
 unfolding part
-returns-5 c = λ st so. line-of _ (c .before .before .before .before .before .before .before .find .ensures) _ _ st (c .before .before .before .before .before .before .if1 .left) (so .section) (c .before .before .before .line-kind .ensures) (c .before .enum-told4 .given .1) (c .read-start .ensures _ _ st so)
+returns-5 c =
+    λ st so.
+    line-of _ (c .before .before .before .before .before .before .before .find .ensures) _ _ st
+    (c .before .before .before .before .before .before .if1 .left) (so .section) (c .before .before .before .line-kind .ensures)
+    (c .before .enum-told4 .given .1) (c .read-start .ensures _ _ st so)
 
 returns-6 : tie.Need-returns-6
 unfolding part
-returns-6 c = λ st so. line-of _ (c .before .before .before .before .before .before .before .before .before .before .find .ensures) _ _ st (c .before .before .before .before .before .before .before .before .before .if1 .left) (so .section) (c .before .before .before .before .before .before .line-kind .ensures) (c .before .before .before .before .enum-told5 .given .1) (c .read-move .ensures _ _ _ st so (rest-lies _ _ _ (c .before .before .before .before .before .before .before .before .before .before .before .before .before .pre .0) (c .before .before .before .before .before .before .before .before .before .before .before .before .before .pre .1) _ (c .before .before .before .before .before .before .before .before .before .if1 .left)))
+returns-6 c =
+    λ st so.
+    line-of _ (c .before .before .before .before .before .before .before .before .before .before .find .ensures) _ _ st
+    (c .before .before .before .before .before .before .before .before .before .if1 .left) (so .section)
+    (c .before .before .before .before .before .before .line-kind .ensures) (c .before .before .before .before .enum-told5 .given .1)
+    (c .read-move .ensures _ _ _ st so
+    (rest-lies _ _ _ (c .before .before .before .before .before .before .before .before .before .before .before .before .before .pre .0)
+    (c .before .before .before .before .before .before .before .before .before .before .before .before .before .pre .1) _
+    (c .before .before .before .before .before .before .before .before .before .if1 .left)))
 
 returns-7 : tie.Need-returns-7
 unfolding part
-returns-7 c = λ st so. line-of _ (c .before .before .before .before .before .before .before .before .before .before .find .ensures) _ _ st (c .before .before .before .before .before .before .before .before .before .if1 .left) (so .section) (c .before .before .before .before .before .before .line-kind .ensures) (c .before .before .before .before .enum-told6 .given .1) (c .read-stop .ensures _ _ _ st so)
+returns-7 c =
+    λ st so.
+    line-of _ (c .before .before .before .before .before .before .before .before .before .before .find .ensures) _ _ st
+    (c .before .before .before .before .before .before .before .before .before .if1 .left) (so .section)
+    (c .before .before .before .before .before .before .line-kind .ensures) (c .before .before .before .before .enum-told6 .given .1)
+    (c .read-stop .ensures _ _ _ st so)
 
 returns-8 : tie.Need-returns-8
 unfolding part
-returns-8 c = λ st so. line-of _ (c .before .before .before .before .before .before .before .find .ensures) _ _ st (c .before .before .before .before .before .before .if1 .left) (so .section) (c .before .before .before .line-kind .ensures) (c .before .enum-told7 .given .1) (refuses (c .refuse2 .ensures) refl)
+returns-8 c =
+    λ st so.
+    line-of _ (c .before .before .before .before .before .before .before .find .ensures) _ _ st
+    (c .before .before .before .before .before .before .if1 .left) (so .section) (c .before .before .before .line-kind .ensures)
+    (c .before .enum-told7 .given .1) (refuses (c .refuse2 .ensures) refl)
 
 pub read-line-spec : {M : Type 1} → statement M
 read-line-spec =

@@ -20,35 +20,88 @@ part-read-state-end c = let k = parted-of _ (c .before .cut .given .1) (c .befor
 
 returns-2 : tie.Need-returns-2
 unfolding part
-returns-2 c = λ v m g st so. stop-state _ _ st (c .before .before .before .before .before .before .cut .given .1) (c .before .before .before .before .before .before .before .before .cut-two .ensures) (c .before .enum-told2 .given .1) (c .before .before .before .read-state .ensures) (c .refuse2 .ensures)
+returns-2 c =
+    λ v m g st so.
+    stop-state _ _ st (c .before .before .before .before .before .before .cut .given .1)
+    (c .before .before .before .before .before .before .before .before .cut-two .ensures) (c .before .enum-told2 .given .1)
+    (c .before .before .before .read-state .ensures) (c .refuse2 .ensures)
 
 add-read-whole : tie.Need-add-read-whole
-add-read-whole c = let k = parted-of _ (c .before .before .before .before .before .before .cut .given .1) (c .before .before .before .before .before .before .before .before .cut-two .ensures) in omega arith
+add-read-whole c =
+    let k = parted-of _ (c .before .before .before .before .before .before .cut .given .1)
+    (c .before .before .before .before .before .before .before .before .cut-two .ensures) in
+    omega arith
 
 sub-read-whole : tie.Need-sub-read-whole
-sub-read-whole c = let k = parted-of _ (c .before .before .before .before .before .before .cut .given .1) (c .before .before .before .before .before .before .before .before .cut-two .ensures) in omega arith
+sub-read-whole c =
+    let k = parted-of _ (c .before .before .before .before .before .before .cut .given .1)
+    (c .before .before .before .before .before .before .before .before .cut-two .ensures) in
+    omega arith
 
 part-read-whole-start : tie.Need-part-read-whole-start
-part-read-whole-start c = let k = parted-of _ (c .before .before .before .before .before .before .cut .given .1) (c .before .before .before .before .before .before .before .before .cut-two .ensures) in omega arith
+part-read-whole-start c =
+    let k = parted-of _ (c .before .before .before .before .before .before .cut .given .1)
+    (c .before .before .before .before .before .before .before .before .cut-two .ensures) in
+    omega arith
 
 part-read-whole-end : tie.Need-part-read-whole-end
-part-read-whole-end c = let k = parted-of _ (c .before .before .before .before .before .before .cut .given .1) (c .before .before .before .before .before .before .before .before .cut-two .ensures) in omega arith
+part-read-whole-end c =
+    let k = parted-of _ (c .before .before .before .before .before .before .cut .given .1)
+    (c .before .before .before .before .before .before .before .before .cut-two .ensures) in
+    omega arith
 
 returns-3 : tie.Need-returns-3
 unfolding part
-returns-3 c = λ v m g st so. stop-refused _ _ st (c .before .before .before .before .before .before .before .before .before .before .before .before .cut .given .1) (c .before .before .before .before .before .before .before .before .before .before .before .before .before .before .cut-two .ensures) (c .before .before .before .before .before .before .before .q .given .1) (c .before .before .before .before .before .before .before .before .before .read-state .ensures) (c .before .before .before .before .read-whole .result .read) (c .before .before .before .before .read-whole .result .set) so (c .before .before .before .before .read-whole .ensures) (c .before .before .read .given .1) (c .refuse3 .ensures)
+returns-3 c =
+    λ v m g st so.
+    stop-refused _ _ st (c .before .before .before .before .before .before .before .before .before .before .before .before .cut .given .1)
+    (c .before .before .before .before .before .before .before .before .before .before .before .before .before .before .cut-two .ensures)
+    (c .before .before .before .before .before .before .before .q .given .1)
+    (c .before .before .before .before .before .before .before .before .before .read-state .ensures)
+    (c .before .before .before .before .read-whole .result .read) (c .before .before .before .before .read-whole .result .set) so
+    (c .before .before .before .before .read-whole .ensures) (c .before .before .read .given .1) (c .refuse3 .ensures)
 
 returns-4 : tie.Need-returns-4
 unfolding part
-returns-4 c = λ v m g st so. stop-repeat _ _ st (c .before .before .before .before .before .before .before .before .before .before .before .before .before .before .cut .given .1) (c .before .before .before .before .before .before .before .before .before .before .before .before .before .before .before .before .cut-two .ensures) (c .before .before .before .before .before .before .before .before .before .q .given .1) (c .before .before .before .before .before .before .before .before .before .before .before .read-state .ensures) (c .before .before .before .before .before .before .read-whole .result .read) (c .before .before .before .before .before .before .read-whole .result .set) so (c .before .before .before .before .before .before .read-whole .ensures) (c .before .before .before .before .enum-told3 .given .1) (c .before .before .has-stop .ensures) (c .before .if1 .taken) (c .refuse4 .ensures)
+returns-4 c =
+    λ v m g st so.
+    stop-repeat _ _ st
+    (c .before .before .before .before .before .before .before .before .before .before .before .before .before .before .cut .given .1)
+    (c .before .before .before .before .before .before .before .before .before .before .before .before .before .before .before .before .cut-two .ensures)
+    (c .before .before .before .before .before .before .before .before .before .q .given .1)
+    (c .before .before .before .before .before .before .before .before .before .before .before .read-state .ensures)
+    (c .before .before .before .before .before .before .read-whole .result .read)
+    (c .before .before .before .before .before .before .read-whole .result .set) so
+    (c .before .before .before .before .before .before .read-whole .ensures) (c .before .before .before .before .enum-told3 .given .1)
+    (c .before .before .has-stop .ensures) (c .before .if1 .taken) (c .refuse4 .ensures)
 
 returns-5 : tie.Need-returns-5
 unfolding part
-returns-5 c = λ v m g st so. stop-never _ _ st (c .before .before .before .before .before .before .before .before .before .before .before .before .before .before .before .cut .given .1) (c .before .before .before .before .before .before .before .before .before .before .before .before .before .before .before .before .before .cut-two .ensures) (c .before .before .before .before .before .before .before .before .before .before .q .given .1) (c .before .before .before .before .before .before .before .before .before .before .before .before .read-state .ensures) (c .before .before .before .before .before .before .before .read-whole .result .read) (c .before .before .before .before .before .before .before .read-whole .result .set) so (c .before .before .before .before .before .before .before .read-whole .ensures) (c .before .before .before .before .before .enum-told3 .given .1) (c .before .before .before .has-stop .ensures) (c .before .before .if1 .left) (c .before .if2 .taken)
+returns-5 c =
+    λ v m g st so.
+    stop-never _ _ st
+    (c .before .before .before .before .before .before .before .before .before .before .before .before .before .before .before .cut .given .1)
+    (c .before .before .before .before .before .before .before .before .before .before .before .before .before .before .before .before .before .cut-two .ensures)
+    (c .before .before .before .before .before .before .before .before .before .before .q .given .1)
+    (c .before .before .before .before .before .before .before .before .before .before .before .before .read-state .ensures)
+    (c .before .before .before .before .before .before .before .read-whole .result .read)
+    (c .before .before .before .before .before .before .before .read-whole .result .set) so
+    (c .before .before .before .before .before .before .before .read-whole .ensures) (c .before .before .before .before .before .enum-told3 .given .1)
+    (c .before .before .before .has-stop .ensures) (c .before .before .if1 .left) (c .before .if2 .taken)
 
 returns-6 : tie.Need-returns-6
 unfolding part
-returns-6 c = λ v m g st so. stop-kept _ _ st (c .before .before .before .before .before .before .before .before .before .before .before .before .before .before .before .cut .given .1) (c .before .before .before .before .before .before .before .before .before .before .before .before .before .before .before .before .before .cut-two .ensures) (c .before .before .before .before .before .before .before .before .before .before .q .given .1) (c .before .before .before .before .before .before .before .before .before .before .before .before .read-state .ensures) (c .before .before .before .before .before .before .before .read-whole .result .read) (c .before .before .before .before .before .before .before .read-whole .result .set) so (c .before .before .before .before .before .before .before .read-whole .ensures) (c .before .before .before .before .before .enum-told3 .given .1) (c .before .before .before .has-stop .ensures) (c .before .before .if1 .left)
+returns-6 c =
+    λ v m g st so.
+    stop-kept _ _ st
+    (c .before .before .before .before .before .before .before .before .before .before .before .before .before .before .before .cut .given .1)
+    (c .before .before .before .before .before .before .before .before .before .before .before .before .before .before .before .before .before .cut-two .ensures)
+    (c .before .before .before .before .before .before .before .before .before .before .q .given .1)
+    (c .before .before .before .before .before .before .before .before .before .before .before .before .read-state .ensures)
+    (c .before .before .before .before .before .before .before .read-whole .result .read)
+    (c .before .before .before .before .before .before .before .read-whole .result .set) so
+    (c .before .before .before .before .before .before .before .read-whole .ensures) (c .before .before .before .before .before .enum-told3 .given .1)
+    (c .before .before .before .has-stop .ensures) (c .before .before .if1 .left)
 
 pub read-stop-spec : {M : Type 1} → statement M
 read-stop-spec =

@@ -21,10 +21,14 @@ loop-holds : tie.Need-loop-holds Inv-loop μ-loop
 loop-holds c = rw (c .at-most .ensures) (looked-all _ _ _)
 
 returns : tie.Need-returns Inv-loop μ-loop
-returns c = looked-found _ _ (c .before .before .before .before .loop .inv) (c .before .before .before .loop-test .taken) (λ m ms h. move-found _ _ _ m ms (sym (c .before .is-move .ensures m h) ∙ c .if1 .taken))
+returns c =
+    looked-found _ _ (c .before .before .before .before .loop .inv) (c .before .before .before .loop-test .taken)
+    (λ m ms h. move-found _ _ _ m ms (sym (c .before .is-move .ensures m h) ∙ c .if1 .taken))
 
 loop-again : tie.Need-loop-again Inv-loop μ-loop
-loop-again c = looked-more _ _ (c .before .before .before .before .loop .inv) (c .before .before .before .loop-test .taken) (λ m ms h. move-more _ _ _ m ms (sym (c .before .is-move .ensures m h) ∙ c .if1 .left))
+loop-again c =
+    looked-more _ _ (c .before .before .before .before .loop .inv) (c .before .before .before .loop-test .taken)
+    (λ m ms h. move-more _ _ _ m ms (sym (c .before .is-move .ensures m h) ∙ c .if1 .left))
 
 returns-2 : tie.Need-returns-2 Inv-loop μ-loop
 returns-2 c = looked-none _ _ (c .before .loop .inv) (c .loop-test .left) (move-none _ _ _)
