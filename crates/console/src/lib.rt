@@ -46,3 +46,12 @@ pub fn print_refusal(number: u8, line: usize) -> bool {
     }
     io::write_all(STDOUT_FILENO, b"\n")
 }
+
+// Writes the first n bytes of the room, all of it where it is shorter; answers whether all was
+// written.
+pub fn print_text(room: &[u8], n: usize) -> bool {
+    if room.len() < n {
+        return io::write_all(STDOUT_FILENO, room);
+    }
+    io::write_all(STDOUT_FILENO, &room[0..n])
+}

@@ -1,0 +1,253 @@
+-- The loops of rows. One record for each loop: for every sheet that the tables stand for there is a text of the rows so far, and it was laid. The
+-- rows that were laid are for the last elements of the sheet's list, which has the last line first. Assumes nothing.
+use mathlib.Core.Bool.{Bool, true, false, _||_}
+use mathlib.Core.List.{List, [], _∷_, _++_, append-nil, List·Memᴰ, List·Memᴰ·head, List·Memᴰ·tail}
+use mathlib.Core.Logic.{⊎-elim}
+use mathlib.Core.Path.{_≡_, refl, sym, ap, _∙_}
+use Prim.Native.Nat.{ℕ, suc, _+_, _-_, _%_, _≤_, _<_, min}
+use native.Mathlib.Nat.{eq-or-lt-of-le}
+use native.Mathlib.Numerals.{add-one}
+use native.Mathlib.Omega.{arith}
+use lib.Dec.{eqb}
+use lib.ListN.{length, getD, drop, drop-of-length-le}
+use Rattle.text.specs.Text.{limit, Wrote}
+use Rattle.text.proofs.Laws.{wrote-none, wrote-then, wrote-long}
+use Rattle.products.specs.Sets.{has, countTo}
+use Rattle.guards.specs.Guard.{Means}
+use Rattle.sheet.specs.declared.Counts.{Counts}
+use Rattle.sheet.specs.Sheet.{Move, Stop, Sheet}
+use Rattle.sheet.specs.Tables.{Rows, none, next}
+use Rattle.sheet.specs.Accepted.{GoodMove, GoodMoves, GoodStop, GoodStops}
+use Rattle.sheet.proofs.Rows.{rows-length}
+use Rattle.verdicts.specs.declared.Verdict.{Verdict}
+use Rattle.verdicts.specs.declared.StateVerdict.{StateVerdict}
+use Rattle.verdicts.specs.declared.StopVerdict.{StopVerdict}
+use Rattle.verdicts.specs.Verdicts.{JudgedAs, StopAs}
+use Rattle.verdicts.specs.Judging.{MoveSets, StateSets, StopSets, guardsAt, rowAt}
+use Rattle.verdicts.proofs.Meaning.{named-means, count-judged, move-judged, state-judged, stop-judged}
+use Rattle.reporting.specs.Report.{moveRow, stateRow, stopRow, MoveRows, StateRows, StopRows}
+use Rattle.reporting.specs.Promise.{Ready}
+
+-- ---- one row more
+
+-- row i is for the element before which i elements were read: with it, the last i + 1 elements are the last i and that one
+pub row-next : {A : Type 0} {R S : ℕ → A → Type 0} {k i : ℕ} {xs : List A} → Rows R k xs → Rows S k xs → i < k
+    → (x : A) × (drop (k - (i + 1)) xs ≡ x ∷ drop (k - i) xs) × R i x × S i x × List·Memᴰ x xs
+row-next none none h = absurd (omega arith)
+row-next {R = R} {S = S} {i = i} (next {k} {x} {xs} a first) (next b second) h =
+    ⊎-elim
+    (λ (e : i ≡ k).
+    let z : suc k - (i + 1) ≡ 0 = omega arith in
+    let o : suc k - i ≡ 1 = omega arith in
+    (x, rw (z, o), rw e a, rw e b, List·Memᴰ·head refl))
+    (λ (l : i < k).
+    let y = row-next first second l in
+    let z : suc k - (i + 1) ≡ suc (k - (i + 1)) = omega arith in
+    let o : suc k - i ≡ suc (k - i) = omega arith in
+    (y .0, rw (z, o) (y .1), y .2, y .3, List·Memᴰ·tail (y .4)))
+    (eq-or-lt-of-le (omega arith))
+
+-- ---- texts of rows
+
+-- for every sheet with the property P the rows Q up to i were laid from `at` on, and the room keeps its length
+pub record Laid (P : Sheet → Type 0) (Q : ℕ → Sheet → List ℕ → Type 0) (room : List ℕ) (at i : ℕ) (room′ : List ℕ) (next : ℕ) : Type 0 where
+  pub long : length room′ ≡ length room
+  pub text : (r : Sheet) → P r → (vs : List ℕ) × Q i r vs × Wrote room at vs room′ next
+
+module _ {P : Sheet → Type 0} {Q : ℕ → Sheet → List ℕ → Type 0} {room : List ℕ} {at : ℕ} where
+  pub laid-none : length room ≤ limit → ((r : Sheet) → P r → Q 0 r []) → Laid P Q room at 0 room at
+  laid-none h f = record { long = refl; text = λ r p. ([], f r p, wrote-none h) }
+
+  pub laid-more : {i : ℕ} {room′ room″ : List ℕ} {next next″ : ℕ} → Laid P Q room at i room′ next → length room″ ≡ length room′
+      → ((r : Sheet) → P r → (ws : List ℕ) × ((vs : List ℕ) → Q i r vs → Q (i + 1) r (vs ++ ws)) × Wrote room′ next ws room″ next″)
+      → Laid P Q room at (i + 1) room″ next″
+  laid-more l e f =
+      record {
+        long = e ∙ l .long;
+        text = λ r p.
+            let x = l .text r p in
+            let y = f r p in
+            (x .0 ++ y .0, y .1 (x .0) (x .1), wrote-then (x .2) (y .2));
+      }
+
+-- ---- moves
+
+-- the first n rows are for all moves of the sheet
+pub record MovesReady (n : ℕ) (m g sets : List (List ℕ)) (r : Sheet) : Type 0 where
+  pub counts : Counts
+  pub stops : List (List ℕ)
+  pub guards : List (List ℕ)
+  pub is : n ≡ min (counts .moves) 256
+  pub ready : Ready counts m g stops guards sets r
+
+-- the rows of the first i moves, of n
+unfoldable pub MovesUpto : ℕ → ℕ → Sheet → List ℕ → Type 0
+MovesUpto n i r vs = MoveRows _≤_ r (drop (n - i) (r .moves)) vs
+
+good-move : {n : ℕ} {ms : List Move} {m : Move} → GoodMoves n ms → List·Memᴰ m ms → GoodMove n m
+good-move {n} g (List·Memᴰ·head e) = rw e (g .0)
+good-move g (List·Memᴰ·tail i) = good-move (g .2) i
+
+-- the move x is the next of the list, and its line and verdict make its row
+add-move : {r : Sheet} (ms : List Move) {x : Move} {n k line : ℕ} (i : ℕ) (v : Verdict) (vs : List ℕ) → n ≡ k → line ≡ x .line
+    → drop (k - (i + 1)) ms ≡ x ∷ drop (k - i) ms → JudgedAs _≤_ r x v → MoveRows _≤_ r (drop (n - i) ms) vs
+    → MoveRows _≤_ r (drop (n - (i + 1)) ms) (vs ++ moveRow line v)
+add-move ms i v vs k line split judged q = rw (line, k, split) (MoveRows.next v judged (rw k at q))
+
+module _ {n : ℕ} {m g sets : List (List ℕ)} {r : Sheet} (w : MovesReady n m g sets r) where
+  moves-count : n ≡ w .counts .moves
+  moves-count = let few = w .ready .stands .filled .moves .few in let is = w .is in omega arith
+
+  moves-length : length (r .moves) ≡ n
+  moves-length = rows-length (w .ready .stands .filled .moves .rows) ∙ sym moves-count
+
+  no-move : MovesUpto n 0 r []
+  unfolding MovesUpto
+  no-move = let l = moves-length in rw (drop-of-length-le (r .moves) {i = n - 0} (omega arith)) MoveRows.none
+
+  every-move : {i : ℕ} {vs : List ℕ} → n ≤ i → MovesUpto n i r vs → MoveRows _≤_ r (r .moves) vs
+  unfolding MovesUpto
+  every-move {i} h q = let z : n - i ≡ 0 = omega arith in rw z at q
+
+  one-move : {i line : ℕ} (v : Verdict) (vs : List ℕ) → i < n → line ≡ getD (getD m i []) 0 0
+      → MoveSets (getD sets (getD (getD m i []) 1 0 % 64) []) (getD g i []) (getD (getD m i []) 5 0) v
+      → MovesUpto n i r vs → MovesUpto n (i + 1) r (vs ++ moveRow line v)
+  unfolding MovesUpto
+  one-move {i} {line} v vs h e s q =
+      let k = moves-count in
+      let l : i < w .counts .moves = omega arith in
+      let x = row-next (w .ready .stands .filled .moves .rows) (w .ready .stands .filled .moveGuards .rows) l in
+      let is = x .2 .is in
+      let good = good-move (w .ready .accepted .moves) (x .4) .from in
+      let from : getD (getD m i []) 1 0 ≡ x .0 .from = ap (λ (row : List ℕ). getD row 1 0) is in
+      let place : getD (getD m i []) 1 0 % 64 ≡ x .0 .from = omega arith in
+      let sets-there = rw place at s in
+      let judged = move-judged (w .ready .accepted) (w .ready .reaches) (x .0) (x .4) (getD g i []) (x .3) (ap (λ (row : List ℕ). getD row 5 0) is) v sets-there in
+      let line-is : line ≡ x .0 .line = e ∙ ap (λ (row : List ℕ). getD row 0 0) is in
+      add-move (r .moves) i v vs k line-is (x .1) judged q
+
+-- ---- the loop over moves
+
+module _ {n : ℕ} {m g sets : List (List ℕ)} {room : List ℕ} {at : ℕ} where
+  pub moves-none : length room ≤ limit → Laid (MovesReady n m g sets) (MovesUpto n) room at 0 room at
+  moves-none h = laid-none h (λ r w. no-move w)
+
+  pub moves-more : {i line : ℕ} (v : Verdict) {room′ room″ : List ℕ} {next next″ : ℕ} → Laid (MovesReady n m g sets) (MovesUpto n) room at i room′ next
+      → Wrote room′ next (moveRow line v) room″ next″ → i < n
+      → (line ≡ getD (getD m i []) 0 0) × MoveSets (getD sets (getD (getD m i []) 1 0 % 64) []) (getD g i []) (getD (getD m i []) 5 0) v
+      → Laid (MovesReady n m g sets) (MovesUpto n) room at (i + 1) room″ next″
+  moves-more {line = line} v l w h j = laid-more l (wrote-long w) (λ r p. (moveRow line v, λ vs q. one-move p v vs h (j .0) (j .1) q, w))
+
+  pub moves-all : {i : ℕ} {room′ : List ℕ} {next : ℕ} → Laid (MovesReady n m g sets) (MovesUpto n) room at i room′ next → n ≤ i → {c : Counts} → n ≡ min (c .moves) 256
+      → (t h : List (List ℕ)) (r : Sheet) → Ready c m g t h sets r → (vs : List ℕ) × MoveRows _≤_ r (r .moves) vs × Wrote room at vs room′ next
+  moves-all l h {c} e stops guards r ready =
+      let w : MovesReady n m g sets r = record { counts = c; stops = stops; guards = guards; is = e; ready = ready } in
+      let x = l .text r w in
+      (x .0, every-move w h (x .1), x .2)
+
+-- ---- states
+
+-- the rows of the named states below q
+unfoldable pub StatesUpto : ℕ → Sheet → List ℕ → Type 0
+StatesUpto q r vs = StateRows _≤_ r q vs
+
+module _ {c : Counts} {m g t h sets : List (List ℕ)} {room : List ℕ} {at : ℕ} where
+  pub states-none : length room ≤ limit → Laid (Ready c m g t h sets) StatesUpto room at 0 room at
+  unfolding StatesUpto
+  states-none l = laid-none l (λ r w. StateRows.none)
+
+  pub states-more : {q : ℕ} {room′ room″ : List ℕ} {next next″ : ℕ} → Laid (Ready c m g t h sets) StatesUpto room at q room′ next → length room″ ≡ length room′
+      → ((r : Sheet) → Ready c m g t h sets r → (vs : List ℕ) × ((before : List ℕ) → StateRows _≤_ r q before → StateRows _≤_ r (suc q) (before ++ vs)) × Wrote room′ next vs room″ next″)
+      → Laid (Ready c m g t h sets) StatesUpto room at (q + 1) room″ next″
+  unfolding StatesUpto
+  states-more {q} l e f = laid-more l e (λ r w. let x = f r w in (x .0, λ vs s. rw add-one (x .1 vs s), x .2))
+
+  pub states-all : {q : ℕ} {room′ : List ℕ} {next : ℕ} → Laid (Ready c m g t h sets) StatesUpto room at q room′ next → q ≡ 64
+      → (r : Sheet) → Ready c m g t h sets r → (vs : List ℕ) × StateRows _≤_ r 64 vs × Wrote room at vs room′ next
+  unfolding StatesUpto
+  states-all l e r w = let x = l .text r w in (x .0, rw e at (x .1), x .2)
+
+-- one state: no row where no line names it, else its row
+module _ {c : Counts} {m g t h sets : List (List ℕ)} {room : List ℕ} {at q : ℕ} {b : Bool}
+    (n : b ≡ (eqb q (c .start) || (rowAt m 1 q (min (c .moves) 256) || (rowAt m 4 q (min (c .moves) 256) || rowAt t 1 q (min (c .stops) 64))))) where
+  pub state-passed : b ≡ false → length room ≤ limit → (r : Sheet) → Ready c m g t h sets r
+      → (vs : List ℕ) × ((before : List ℕ) → StateRows _≤_ r q before → StateRows _≤_ r (suc q) (before ++ vs)) × Wrote room at vs room at
+  state-passed f l r w =
+      ([], λ before s. rw (append-nil before) (StateRows.other (named-means (w .stands) q .not-so (sym n ∙ f)) s), wrote-none l)
+
+  pub state-laid : (v : StateVerdict) {k : ℕ} {room′ : List ℕ} {next : ℕ} → Wrote room at (stateRow q v k) room′ next → k ≡ countTo (getD sets q []) 1024
+      → b ≡ true → q < 64 → {leaves : Bool} → leaves ≡ rowAt m 1 q (min (c .moves) 256)
+      → (out : List ℕ) → ((p : ℕ) → p < 1024 → has out p ≡ guardsAt m g q p (min (c .moves) 256))
+      → (declared : List ℕ) → ((p : ℕ) → p < 1024 → has declared p ≡ guardsAt t h q p (min (c .stops) 64))
+      → StateSets (getD sets q []) leaves out declared v → (r : Sheet) → Ready c m g t h sets r
+      → (vs : List ℕ) × ((before : List ℕ) → StateRows _≤_ r q before → StateRows _≤_ r (suc q) (before ++ vs)) × Wrote room at vs room′ next
+  state-laid v {k} l e f lq a out o declared d x r w = (
+    stateRow q v k,
+    λ before s.
+        StateRows.named {k = k} v (named-means (w .stands) q .so (sym n ∙ f)) (state-judged (w .accepted) (w .reaches) (w .stands) lq out o declared d a v x)
+        (rw e (count-judged (w .accepted) (w .reaches) lq)) s,
+    l,
+  )
+
+-- ---- stop lines
+
+good-stop : {n : ℕ} {ds : List Stop} {d : Stop} → GoodStops n ds → List·Memᴰ d ds → GoodStop n d
+good-stop {n} g (List·Memᴰ·head e) = rw e (g .0)
+good-stop g (List·Memᴰ·tail i) = good-stop (g .2) i
+
+-- the stop line of row i, judged
+pub stop-shown : {c : Counts} {m g t h sets : List (List ℕ)} (i : ℕ) (out : List ℕ) (v : StopVerdict)
+    → ((p : ℕ) → p < 1024 → has out p ≡ guardsAt m g (getD (getD t i []) 1 0) p (min (c .moves) 256))
+    → StopSets (getD sets (getD (getD t i []) 1 0 % 64) []) (getD h i []) out v
+    → (r : Sheet) → Ready c m g t h sets r → (d : Stop) → List·Memᴰ d (r .stops) → getD (getD t i []) 1 0 ≡ d .state → Means (getD h i []) (d .guard) → StopAs _≤_ r d v
+stop-shown {t = t} {h = h} i out v o x r w d j e k =
+    let small = good-stop (w .accepted .stops) j .state in
+    let place : getD (getD t i []) 1 0 % 64 ≡ d .state = omega arith in
+    stop-judged (w .accepted) (w .reaches) (w .stands) d j (getD h i []) k out (rw e at o) v (rw place at x)
+
+-- the rows of the first i stop lines, of n
+unfoldable pub StopsUpto : ℕ → ℕ → Sheet → List ℕ → Type 0
+StopsUpto n i r vs = StopRows _≤_ r (drop (n - i) (r .stops)) vs
+
+-- the same for the stop line x
+add-stop : {r : Sheet} (ds : List Stop) {x : Stop} {n k line : ℕ} (i : ℕ) (v : StopVerdict) (vs : List ℕ) → n ≡ k → line ≡ x .line
+    → drop (k - (i + 1)) ds ≡ x ∷ drop (k - i) ds → StopAs _≤_ r x v → StopRows _≤_ r (drop (n - i) ds) vs
+    → StopRows _≤_ r (drop (n - (i + 1)) ds) (vs ++ stopRow line v)
+add-stop ds i v vs k line split judged q = rw (line, k, split) (StopRows.next v judged (rw k at q))
+
+module _ {c : Counts} {m g t h sets : List (List ℕ)} {r : Sheet} (w : Ready c m g t h sets r) {n : ℕ} (e : n ≡ min (c .stops) 64) where
+  stops-count : n ≡ c .stops
+  stops-count = let few = w .stands .filled .stops .few in omega arith
+
+  no-stop : StopsUpto n 0 r []
+  unfolding StopsUpto
+  no-stop =
+      let k = stops-count in
+      let l = rows-length (w .stands .filled .stops .rows) in
+      rw (drop-of-length-le (r .stops) {i = n - 0} (omega arith)) StopRows.none
+
+  one-stop : {i : ℕ} (v : StopVerdict) (vs : List ℕ) → i < n
+      → ((d : Stop) → List·Memᴰ d (r .stops) → getD (getD t i []) 1 0 ≡ d .state → Means (getD h i []) (d .guard) → StopAs _≤_ r d v)
+      → StopsUpto n i r vs → StopsUpto n (i + 1) r (vs ++ stopRow (getD (getD t i []) 0 0) v)
+  unfolding StopsUpto
+  one-stop {i} v vs l f q =
+      let k = stops-count in
+      let x = row-next {i = i} (w .stands .filled .stops .rows) (w .stands .filled .stopGuards .rows) (omega arith) in
+      let judged = f (x .0) (x .4) (ap (λ (row : List ℕ). getD row 1 0) (x .2)) (x .3) in
+      let line : getD (getD t i []) 0 0 ≡ x .0 .line = ap (λ (row : List ℕ). getD row 0 0) (x .2) in
+      add-stop (r .stops) i v vs k line (x .1) judged q
+
+module _ {c : Counts} {m g t h sets : List (List ℕ)} {room : List ℕ} {at n : ℕ} (e : n ≡ min (c .stops) 64) where
+  pub stops-none : length room ≤ limit → Laid (Ready c m g t h sets) (StopsUpto n) room at 0 room at
+  stops-none l = laid-none l (λ r w. no-stop w e)
+
+  pub stops-more : {i : ℕ} (v : StopVerdict) {room′ room″ : List ℕ} {next next″ : ℕ} → Laid (Ready c m g t h sets) (StopsUpto n) room at i room′ next
+      → Wrote room′ next (stopRow (getD (getD t i []) 0 0) v) room″ next″ → i < n
+      → ((r : Sheet) → Ready c m g t h sets r → (d : Stop) → List·Memᴰ d (r .stops) → getD (getD t i []) 1 0 ≡ d .state → Means (getD h i []) (d .guard) → StopAs _≤_ r d v)
+      → Laid (Ready c m g t h sets) (StopsUpto n) room at (i + 1) room″ next″
+  stops-more {i} v l w lt f = laid-more l (wrote-long w) (λ r p. (stopRow (getD (getD t i []) 0 0) v, λ vs q. one-stop p e v vs lt (f r p) q, w))
+
+  pub stops-all : {i : ℕ} {room′ : List ℕ} {next : ℕ} → Laid (Ready c m g t h sets) (StopsUpto n) room at i room′ next → n ≤ i
+      → (r : Sheet) → Ready c m g t h sets r → (vs : List ℕ) × StopRows _≤_ r (r .stops) vs × Wrote room at vs room′ next
+  unfolding StopsUpto
+  stops-all {i} l k r w = let x = l .text r w in let z : n - i ≡ 0 = omega arith in (x .0, rw z at (x .1), x .2)

@@ -1,0 +1,49 @@
+-- What `report` promises, for every sheet and every room. Assumes nothing: these are definitions.
+use mathlib.Core.List.{List, [], _++_}
+use mathlib.Core.Logic.{_⊎_}
+use mathlib.Core.Path.{_≡_}
+use Prim.Native.Nat.{ℕ, _≤_, _<_}
+use lib.ListN.{length, drop, getD}
+use Rattle.sheet.specs.declared.Counts.{Counts}
+use Rattle.sheet.specs.Sheet.{Sheet}
+use Rattle.sheet.specs.Reading.{kept, refused, readSheet}
+use Rattle.sheet.specs.Tables.{tables, StandsFor}
+use Rattle.sheet.specs.Accepted.{Accepted}
+use Rattle.family.specs.Ways.{Reaches}
+use Rattle.reporting.specs.declared.Answer.{Answer}
+use Rattle.reporting.specs.declared.Answer.the-variants.{Done, Refused}
+use Rattle.reporting.specs.Report.{IsReport}
+
+-- 11: "result longer than the room"
+pub record TooLong (s room : List ℕ) (e n : ℕ) : Type 0 where
+  pub number : e ≡ 11
+  pub line : n ≡ 0
+  pub sheet : Sheet
+  pub accepted : readSheet s ≡ kept sheet
+  pub text : List ℕ
+  pub report : IsReport _≤_ sheet text
+  pub longer : length room < length text
+
+-- "On 0 the answer is the length n; the first n bytes hold the text and the rest of the room keeps its bytes."
+pub record Reported (s room room′ : List ℕ) (n : ℕ) : Type 0 where
+  pub sheet : Sheet
+  pub accepted : readSheet s ≡ kept sheet
+  pub text : List ℕ
+  pub report : IsReport _≤_ sheet text
+  pub fits : length text ≤ length room
+  pub is-length : n ≡ length text
+  pub laid : room′ ≡ text ++ drop n room
+
+-- refused by the table, or by 11, "The output room keeps every byte"; or done
+abbrev pub ReportPromise : List ℕ → List ℕ → List ℕ → Answer → Type 0
+ReportPromise s room room′ (Done n) = Reported s room room′ n
+ReportPromise s room room′ (Refused e n) = (room′ ≡ room) × ((readSheet s ≡ refused e n) ⊎ TooLong s room e n)
+
+-- ---- what the parts of `report` work on: tables that stand for an accepted sheet, with the states' sets
+pub record Ready (c : Counts) (m g t h sets : List (List ℕ)) (r : Sheet) : Type 0 where
+  pub text : List ℕ
+  pub names : List (List ℕ)
+  pub valid : List ℕ
+  pub stands : StandsFor text (tables names valid m g t h) c r
+  pub accepted : Accepted r
+  pub reaches : Reaches r (λ q. getD sets q [])

@@ -1,0 +1,60 @@
+-- The judges' answers, a law for each return: what `products::least` found in the sets, said of the sets that were judged. Assumes nothing.
+use mathlib.Core.Path.{_≡_}
+use mathlib.Core.Bool.{Bool, true, false}
+use mathlib.Core.List.{List}
+use Prim.Native.Nat.{ℕ, _-_, _<_, _≤_, min}
+use Rattle.products.specs.declared.Found.{Found}
+use Rattle.products.specs.declared.Found.the-variants.{At, Nothing}
+use Rattle.products.specs.Sets.{has, In, Least, Finds}
+use Rattle.verdicts.specs.declared.Verdict.the-variants.{False, Must, May}
+use Rattle.verdicts.specs.declared.StateVerdict.the-variants.{Hidden, Live}
+use Rattle.verdicts.specs.declared.StopVerdict.the-variants.{Untrue, True}
+use Rattle.verdicts.specs.Judging.{InBoth, InOnly, MoveSets, StateSets, StopSets}
+use Rattle.verdicts.proofs.Agreeing.{least-as, none-as, some-as, finds-as, found-at, found-none, both-agree, only-agree, left-agree, all-agree}
+
+-- ---- moves
+
+module _ {here guard : List ℕ} (made : List ℕ) (both : (p : ℕ) → p < 1024 → has made p ≡ min (has here p) (has guard p)) {m : Found} (l : Finds _≤_ (In made) m) where
+  made-least : {p : ℕ} → m ≡ At p → Least _≤_ (InBoth here guard) p
+  made-least e = least-as (both-agree both) (found-at _≤_ (In made) l e)
+
+  pub move-must : {p plain : ℕ} → m ≡ At p → plain ≡ 1 → MoveSets here guard plain (Must p)
+  move-must e w = (w, made-least e)
+
+  module _ (missed : List ℕ) (without : (p : ℕ) → p < 1024 → has missed p ≡ has here p - has guard p) (n : Found) (k : Finds _≤_ (In missed) n) where
+    pub move-dead : m ≡ Nothing → ((p : ℕ) → InBoth here guard p → ⊥) × Finds _≤_ (InOnly here guard) n
+    move-dead e = (none-as (both-agree both) (found-none _≤_ (In made) l e), finds-as (only-agree without) _≤_ n k)
+
+    module _ {p plain : ℕ} (e : m ≡ At p) (w : plain ≡ 1 → ⊥) where
+      pub move-false : n ≡ Nothing → MoveSets here guard plain (False p)
+      move-false f = (w, made-least e, none-as (only-agree without) (found-none _≤_ (In missed) k f))
+
+      pub move-may : {q : ℕ} → n ≡ At q → MoveSets here guard plain (May p q)
+      move-may f = (w, made-least e, least-as (only-agree without) (found-at _≤_ (In missed) k f))
+
+-- ---- states
+
+module _ {here : List ℕ} {f : Found} (l : Finds _≤_ (In here) f) {q : ℕ} (e : f ≡ At q) {leaves : Bool} where
+  pub state-end : leaves ≡ false → ((p : ℕ) × In here p) × (leaves ≡ false)
+  state-end w = ((q, found-at _≤_ (In here) l e .is), w)
+
+  module _ (w : leaves ≡ true) {out declared : List ℕ} (s t : List ℕ) (one : (p : ℕ) → p < 1024 → has s p ≡ has here p - has out p)
+      (two : (p : ℕ) → p < 1024 → has t p ≡ has s p - has declared p) {g : Found} (k : Finds _≤_ (In t) g) where
+    pub state-live : g ≡ Nothing → StateSets here leaves out declared Live
+    state-live d = ((q, found-at _≤_ (In here) l e .is), w, none-as (left-agree s one two) (found-none _≤_ (In t) k d))
+
+    pub state-hidden : {p : ℕ} → g ≡ At p → StateSets here leaves out declared (Hidden p)
+    state-hidden d = (w, least-as (left-agree s one two) (found-at _≤_ (In t) k d))
+
+-- ---- stop lines
+
+module _ {here guard : List ℕ} (s : List ℕ) (one : (p : ℕ) → p < 1024 → has s p ≡ min (has here p) (has guard p)) {f : Found} (l : Finds _≤_ (In s) f) where
+  pub stop-idle : f ≡ Nothing → (p : ℕ) → InBoth here guard p → ⊥
+  stop-idle e = none-as (both-agree one) (found-none _≤_ (In s) l e)
+
+  module _ {q : ℕ} (e : f ≡ At q) {out : List ℕ} (t : List ℕ) (two : (p : ℕ) → p < 1024 → has t p ≡ min (has s p) (has out p)) {g : Found} (k : Finds _≤_ (In t) g) where
+    pub stop-true : g ≡ Nothing → StopSets here guard out True
+    stop-true d = (some-as (both-agree one) (q, found-at _≤_ (In s) l e .is), none-as (all-agree s one two) (found-none _≤_ (In t) k d))
+
+    pub stop-untrue : {p : ℕ} → g ≡ At p → StopSets here guard out (Untrue p)
+    stop-untrue d = least-as (all-agree s one two) (found-at _≤_ (In t) k d)
