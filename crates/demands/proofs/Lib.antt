@@ -1,1 +1,6 @@
 pub mod Demands
+pub mod Printed
+pub mod Dish
+pub mod Pieced
+pub mod Three
+pub mod Table

@@ -14,61 +14,12 @@ use Rattle.guards.specs.Reading.{GoodNames}
 use Rattle.sheet.specs.Sheet.{Feature, Move, Stop, Sheet, names, isValid}
 use Rattle.sheet.specs.Reading.{State, Answer, kept, goOn, moved, stopped, withFeature, withValid, withStart, withMove, withStop, readLine, ended, readLines, nothing, last, readSheet}
 use Rattle.sheet.specs.Accepted.{GoodGuard, GoodMoves, GoodStops, Accepted}
+use Rattle.sheet.specs.Spelling.{Fields, ftsFields, validFields, startFields, featureRow, moveRow, stopRow, inOrder, rowsBehind, rowsOf, joined, textOf, bareFeature, bareMove, bareStop, bare, Alike}
 use Rattle.sheet.proofs.Rows.{names-length}
 use Rattle.sheet.proofs.ValidProducts.{valid-found}
-use Rattle.sheet.proofs.Written.{Plain, ftsFields, featureFields, validFields, startFields, moveFields, stopFields, fts-plain, feature-plain, valid-plain, start-plain, move-plain, stop-plain, fts-kept, feature-kept, valid-kept, start-kept, move-kept, stop-kept}
-
--- ---- the text of a sheet
-
-abbrev pub Fields : Type 0
-Fields = List (List ℕ)
-
--- the fields of a line
-abbrev pub featureRow : Feature → Fields
-featureRow f = featureFields (f .name)
-
-abbrev pub moveRow : List (List ℕ) → Move → Fields
-moveRow n m = moveFields n (m .from) (m .action) (m .to) (m .guard)
-
-abbrev pub stopRow : List (List ℕ) → Stop → Fields
-stopRow n d = stopFields n (d .state) (d .guard)
-
--- the rows for a list that has the last line first, in order, before what follows them
-unfoldable pub inOrder : {A : Type 0} → (A → Fields) → List A → List Fields → List Fields
-inOrder row [] rest = rest
-inOrder row (x ∷ xs) rest = inOrder row xs (row x ∷ rest)
-
-abbrev pub rowsBehind : Sheet → List Fields
-rowsBehind s =
-    inOrder featureRow (s .features)
-    (validFields (names (s .features)) (s .valid)
-    ∷ startFields (s .start)
-    ∷ inOrder (moveRow (names (s .features))) (s .moves) (inOrder (stopRow (names (s .features))) (s .stops) []))
-
-abbrev pub rowsOf : Sheet → List Fields
-rowsOf s = ftsFields ∷ rowsBehind s
-
-unfoldable pub joined : List Fields → List (List ℕ)
-joined [] = []
-joined (r ∷ rs) = join r ∷ joined rs
-
-unfoldable pub textOf : Sheet → List ℕ
-textOf s = close (joined (rowsOf s))
+use Rattle.sheet.proofs.Written.{Plain, fts-plain, feature-plain, valid-plain, start-plain, move-plain, stop-plain, fts-kept, feature-kept, valid-kept, start-kept, move-kept, stop-kept}
 
 -- ---- what a sheet says, wherever it says it
-
-abbrev pub bareFeature : Feature → Feature
-bareFeature f = record { name = f .name; place = 0 }
-
-abbrev pub bareMove : Move → Move
-bareMove m = record { line = 0; from = m .from; action = m .action; place = 0; to = m .to; guard = m .guard }
-
-abbrev pub bareStop : Stop → Stop
-bareStop d = record { line = 0; state = d .state; guard = d .guard }
-
--- the sheet with every line's number and every place set to 0
-abbrev pub bare : Sheet → Sheet
-bare s = record { features = map bareFeature (s .features); valid = s .valid; start = s .start; moves = map bareMove (s .moves); stops = map bareStop (s .stops) }
 
 names-bare : (fs : List Feature) → names (map bareFeature fs) ≡ names fs
 unfolding names
@@ -84,10 +35,6 @@ stopped-bare : (q : ℕ) (ds : List Stop) → stopped q (map bareStop ds) ≡ st
 unfolding stopped
 stopped-bare q [] = refl
 stopped-bare q (d ∷ ds) = rw (stopped-bare q ds)
-
--- two sheets that say the same
-pub record Alike (r s : Sheet) : Type 0 where
-  pub is : bare r ≡ bare s
 
 module _ {r s : Sheet} (e : Alike r s) where
   pub alike-names : names (r .features) ≡ names (s .features)

@@ -17,8 +17,8 @@ use Rattle.sheet.specs.Sheet.{Sheet, names, isValid}
 use Rattle.sheet.specs.Reading.{State, Answer, kept, isKnown, moved, stopped, ftsWord, featureWord, validWord, startWord, moveWord, stopWord, editionWord, ftsLine, featureLine, validLine, startLine, guardedMove, moveLine, stopLine, kindIn, byKind, byWord, readLine, none, ended, readLines, nothing, last, readSheet}
 use Rattle.sheet.proofs.LineKinds.{by-kind}
 use Rattle.sheet.proofs.Accepted.{Told, keeps, refuses, told-kept, told-if, told-state, told-guard, told-on}
-use Rattle.sheet.proofs.Written.{ftsFields, featureFields, validFields, startFields, moveFields, stopFields}
-use Rattle.sheet.proofs.ReadBack.{Fields, featureRow, moveRow, stopRow, inOrder, rowsOf, joined, textOf, Alike, alike-text}
+use Rattle.sheet.specs.Spelling.{Fields, ftsFields, featureFields, validFields, startFields, moveFields, stopFields, featureRow, moveRow, stopRow, inOrder, rowsOf, joined, textOf, Alike}
+use Rattle.sheet.proofs.ReadBack.{alike-text}
 
 -- ---- the rows that a state has seen, before what follows them
 

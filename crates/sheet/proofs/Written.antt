@@ -23,6 +23,7 @@ use Rattle.sheet.specs.declared.LineKind.the-variants as kind
 use Rattle.sheet.specs.Sheet.{Feature, names}
 use Rattle.sheet.specs.Reading.{State, moved, stopped, ftsWord, featureWord, validWord, startWord, moveWord, stopWord, editionWord, withFeature, withValid, withStart, withMove, withStop, keep, ftsLine, featureLine, validLine, startLine, guardedMove, moveLine, stopLine, kindIn, byKind, readLine}
 use Rattle.sheet.specs.Accepted.{GoodGuard}
+use Rattle.sheet.specs.Spelling.{ftsFields, featureFields, validFields, startFields, moveFields, stopFields}
 use Rattle.sheet.proofs.Rows.{names-length}
 use Rattle.sheet.proofs.LineKinds.{kind-stop}
 
@@ -58,24 +59,6 @@ module _ (fs : List Feature) (names-good : GoodNames (names fs)) {g : Guard} (go
       (c .0 tt, c .1 tt)
 
 -- ---- the kinds of lines
-
-abbrev pub ftsFields : List (List ℕ)
-ftsFields = ftsWord ∷ editionWord ∷ []
-
-abbrev pub featureFields : List ℕ → List (List ℕ)
-featureFields x = featureWord ∷ x ∷ []
-
-abbrev pub validFields : List (List ℕ) → Guard → List (List ℕ)
-validFields n g = validWord ∷ print g n [] ∷ []
-
-abbrev pub startFields : ℕ → List (List ℕ)
-startFields q = startWord ∷ decimal q ∷ []
-
-abbrev pub moveFields : List (List ℕ) → ℕ → List ℕ → ℕ → Guard → List (List ℕ)
-moveFields n from a to g = moveWord ∷ decimal from ∷ a ∷ decimal to ∷ print g n [] ∷ []
-
-abbrev pub stopFields : List (List ℕ) → ℕ → Guard → List (List ℕ)
-stopFields n q g = stopWord ∷ decimal q ∷ print g n [] ∷ []
 
 pub fts-plain : Plain ftsFields
 unfolding allNameBytes

@@ -2,3 +2,4 @@ pub mod Sheet
 pub mod Reading
 pub mod Tables
 pub mod Accepted
+pub mod Spelling

@@ -1,0 +1,9 @@
+pub mod Texts
+pub mod Once
+pub mod Made
+pub mod Stopped
+pub mod Established
+pub mod Promised
+pub mod Lines
+pub mod Loops
+pub mod Calls

@@ -1,0 +1,52 @@
+-- `put_moves` meets its contract: the lines laid so far are those of the first i rows in order. The measure is the number of rows left. Assumes
+-- nothing.
+use mathlib.Core.Path.{refl}
+use Prim.Native.Nat.{_≤_, _-_, min}
+use native.Mathlib.Omega.{arith}
+use Rattle.text.proofs.Laws.{wrote-long}
+use Rattle.cleaning.proofs.Loops.{MovesLaid, moves-none, moves-more, moves-all}
+use borrow.Author.Needs.{needs}
+use Rattle.cleaning.proofs.put_moves.Statement.{statement}
+use Rattle.cleaning.proofs.put_moves.Tie as tie
+
+abbrev Inv-loop : tie.InvT-loop
+Inv-loop room₀ at text names features moves guards sets order kept n next₀ i₀ room next i = (i ≤ n) × MovesLaid text names moves guards sets order (min features 10) room₀ at i room next
+
+abbrev μ-loop : tie.MeasureT-loop
+μ-loop room₀ at text names features moves guards sets order kept n next₀ i₀ room next i = n - i
+
+loop-holds : tie.Need-loop-holds Inv-loop μ-loop
+loop-holds c = (omega arith, moves-none (search needs))
+
+loop-again : tie.Need-loop-again Inv-loop μ-loop
+loop-again c = (omega arith, moves-more (c .before .before .before .before .before .before .before .before .before .loop .inv .1) refl (c .before .before .put-move .ensures))
+
+same-length : tie.Need-same-length Inv-loop μ-loop
+same-length c = wrote-long (c .before .loop .inv .1 .laid)
+
+returns : tie.Need-returns Inv-loop μ-loop
+returns c = moves-all _ (c .before .loop .inv .1) (c .before .before .at-most .ensures) (omega arith)
+
+pub put-moves-spec : {M : Type 1} → statement M
+put-moves-spec =
+    tie.close
+    (tie.spec
+    Inv-loop
+    μ-loop
+    (λ c κs. search needs)
+    loop-holds
+    (λ c. search needs)
+    (λ c. search needs)
+    (λ c. search needs)
+    (λ c. search needs)
+    (λ c. search needs)
+    (λ c. search needs)
+    (λ c. search needs)
+    (λ c. search needs)
+    (λ c. search needs)
+    (λ c κs. search needs)
+    (λ c. search needs)
+    (λ c. search needs)
+    loop-again
+    same-length
+    returns)

@@ -1,0 +1,231 @@
+// The clean sheet: what each valid product does is kept, in a normal form. `clean` is the outermost
+// call; it trusts nothing and leaves the room as it was where it refuses.
+mod line;
+
+ghost use mathlib.Core.Path.{_≡_};
+ghost use mathlib.Core.List.{List};
+ghost use Prim.Native.Nat.{ℕ, _%_, min};
+ghost use lib.ListN.{getD};
+ghost use Rattle.text.specs.Text.{Wrote};
+ghost use Rattle.guards.specs.Reading.{namesOf};
+ghost use Rattle.sheet.specs.Sheet.{Move, Stop, Sheet};
+ghost use Rattle.sheet.specs.Tables.{Rows, tables};
+ghost use Rattle.sheet.specs.Spelling.{featureFields, moveRow, stopRow, textOf};
+ghost use Rattle.cleaning.specs.Forms.{linesOf, RowMove, StopsBelow, FormOf};
+ghost use Rattle.cleaning.specs.Promise.{CleanPromise};
+use line::put_feature;
+use line::put_move;
+use line::put_start;
+use line::put_stop;
+use line::put_valid;
+use sheet::Counts;
+use sheet::SheetRead;
+
+// Done with the text's length, or refused with number and line.
+pub enum Answer {
+    Done(usize),
+    Refused { number: u8, line: usize },
+}
+
+const MOST_BYTES: usize = 65536;
+
+// Lays the clean form of the sheet `text` into `room`.
+pub fn clean(text: &[u8], room: &mut [u8]) -> Answer
+    ensures { λ r. ⌜ CleanPromise (now (text .entry)) (now (room .entry)) (now (room .exit)) r ⌝ }
+{
+    let mut names = [[0usize; 2]; 10];
+    let mut valid = [0u64; 16];
+    let mut moves = [[0usize; 6]; 256];
+    let mut move_guards = [[0u64; 16]; 256];
+    let mut stops = [[0usize; 2]; 64];
+    let mut stop_guards = [[0u64; 16]; 64];
+    let r = sheet::read_sheet(
+        text,
+        &mut names,
+        &mut valid,
+        &mut moves,
+        &mut move_guards,
+        &mut stops,
+        &mut stop_guards,
+    );
+    let SheetRead::Kept(c) = r else {
+        return pass_up(r);
+    };
+    let mut sets = [[0u64; 16]; 64];
+    family::spread(c.start, valid, c.moves, &moves, &move_guards, &mut sets);
+    let mut order = [0usize; 256];
+    let kept = ordering::order_moves(text, c.moves, &moves, &move_guards, &sets, &mut order);
+    let n = put_clean(
+        &mut room[..0],
+        text,
+        c,
+        &names,
+        valid,
+        &moves,
+        &move_guards,
+        &sets,
+        &order,
+        kept,
+    );
+    if MOST_BYTES < n {
+        return refuse(11, 0);
+    }
+    if room.len() < n {
+        return refuse(11, 0);
+    }
+    let m = put_clean(
+        room,
+        text,
+        c,
+        &names,
+        valid,
+        &moves,
+        &move_guards,
+        &sets,
+        &order,
+        kept,
+    );
+    Answer::Done(m)
+}
+
+fn refuse(number: u8, line: usize) -> Answer
+    ensures { λ r. ⌜ r ≡ Answer.Refused number line ⌝ }
+{
+    Answer::Refused { number, line }
+}
+
+// The reader's refusal, unchanged.
+fn pass_up(r: SheetRead) -> Answer
+    ensures { λ a. ⌜ ((e n : ℕ) → r ≡ SheetRead.Refused e n → a ≡ Answer.Refused e n) ⌝ }
+{
+    match r {
+        SheetRead::Refused { number, line } => refuse(number, line),
+        SheetRead::Kept(_) => refuse(0, 0),
+    }
+}
+
+// Lays the whole clean sheet from the room's start; the answer is its length.
+fn put_clean(
+    room: &mut [u8],
+    text: &[u8],
+    c: Counts,
+    names: &[[usize; 2]; 10],
+    valid: [u64; 16],
+    moves: &[[usize; 6]; 256],
+    guards: &[[u64; 16]; 256],
+    sets: &[[u64; 16]; 64],
+    order: &[usize; 256],
+    kept: usize,
+) -> usize
+    ensures { λ r. ⌜ ((t h : List (List ℕ)) → (f : Sheet) × FormOf (now (text .entry)) c (tables (now (names .entry)) valid (now (moves .entry)) (now (guards .entry)) t h) (now (sets .entry)) (now (order .entry)) kept f × Wrote (now (room .entry)) 0 (textOf f) (now (room .exit)) r) ⌝ }
+{
+    let features = c.features;
+    let a = text::put_bytes(room, 0, b"fts\t1\n");
+    let b = put_features(room, a, text, features, names);
+    let d = put_valid(room, b, text, names, features, valid);
+    let e = put_start(room, d, c.start);
+    let f = put_moves(
+        room,
+        e,
+        text,
+        names,
+        features,
+        moves,
+        guards,
+        sets,
+        order,
+        kept,
+    );
+    put_stops(room, f, text, names, features, c.moves, moves, guards, sets)
+}
+
+// The smaller of the two.
+fn at_most(count: usize, most: usize) -> usize
+    ensures { λ r. ⌜ r ≡ min count most ⌝ }
+{
+    if most < count {
+        return most;
+    }
+    count
+}
+
+// The feature lines, as they are.
+fn put_features(
+    room: &mut [u8],
+    at: usize,
+    text: &[u8],
+    count: usize,
+    names: &[[usize; 2]; 10],
+) -> usize
+    ensures { λ r. ⌜ Wrote (now (room .entry)) at (linesOf featureFields (namesOf (now (text .entry)) (now (names .entry)) (min count 10))) (now (room .exit)) r ⌝ }
+{
+    let n = at_most(count, 10);
+    let mut next = at;
+    let mut i = 0;
+    while i < n {
+        next = put_feature(room, next, text, names[i]);
+        i += 1;
+    }
+    next
+}
+
+// The lines of the kept moves, in their order.
+fn put_moves(
+    room: &mut [u8],
+    at: usize,
+    text: &[u8],
+    names: &[[usize; 2]; 10],
+    features: usize,
+    moves: &[[usize; 6]; 256],
+    guards: &[[u64; 16]; 256],
+    sets: &[[u64; 16]; 64],
+    order: &[usize; 256],
+    kept: usize,
+) -> usize
+    ensures { λ r. ⌜ ((ms : List Move) × Rows (λ i m. RowMove (now (text .entry)) (min features 10) (now (moves .entry)) (now (guards .entry)) (now (sets .entry)) (getD (now (order .entry)) i 0 % 256) m) (min kept 256) ms × Wrote (now (room .entry)) at (linesOf (moveRow (namesOf (now (text .entry)) (now (names .entry)) (min features 10))) ms) (now (room .exit)) r) ⌝ }
+{
+    let n = at_most(kept, 256);
+    let mut next = at;
+    let mut i = 0;
+    while i < n {
+        let k = order[i] % 256;
+        let row = moves[k];
+        let from = row[1] % 64;
+        next = put_move(
+            room,
+            next,
+            text,
+            names,
+            features,
+            row,
+            sets[from],
+            guards[k],
+        );
+        i += 1;
+    }
+    next
+}
+
+// The stop lines, by state.
+fn put_stops(
+    room: &mut [u8],
+    at: usize,
+    text: &[u8],
+    names: &[[usize; 2]; 10],
+    features: usize,
+    count: usize,
+    moves: &[[usize; 6]; 256],
+    guards: &[[u64; 16]; 256],
+    sets: &[[u64; 16]; 64],
+) -> usize
+    ensures { λ r. ⌜ ((ds : List Stop) × StopsBelow (min features 10) (now (moves .entry)) (now (guards .entry)) (now (sets .entry)) (min count 256) 64 ds × Wrote (now (room .entry)) at (linesOf (stopRow (namesOf (now (text .entry)) (now (names .entry)) (min features 10))) ds) (now (room .exit)) r) ⌝ }
+{
+    let mut next = at;
+    let mut q = 0;
+    while q < 64 {
+        let out = verdicts::out_of(q, count, moves, guards);
+        next = put_stop(room, next, text, names, features, q, sets[q], out);
+        q += 1;
+    }
+    next
+}

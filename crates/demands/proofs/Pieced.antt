@@ -1,0 +1,92 @@
+-- "A way pieced together from several products. With feature a, all valid, 0 to 1 under `a` and 1 to 2 under `!a`: the second move is dead (made `-`,
+-- missed 1)." A product that gets beyond state 0 has the feature a, and the second move wants that it has not. Assumes nothing.
+use mathlib.Core.Bool.{Bool, true, false, not}
+use mathlib.Core.List.{List, [], _∷_, List·Memᴰ·head, List·Memᴰ·tail}
+use mathlib.Core.Path.{_≡_, refl}
+use Prim.Native.Nat.{ℕ, zero, suc, _≤_, _<_}
+use native.Mathlib.Omega.{arith}
+use Rattle.products.specs.declared.Found.the-variants.{At}
+use Rattle.fields.specs.Bytes.{sameBytes, allNameBytes, isName, isAction, readState, run, afterRun}
+use Rattle.fields.specs.Cutting.{cut}
+use Rattle.guards.specs.Guard.{always, feature, neg, holds}
+use Rattle.guards.specs.Reading.{number, parts, readGuard, readWhole}
+use Rattle.sheet.specs.Sheet.{Move, Sheet, names}
+use Rattle.sheet.specs.Reading.{kept, ftsLine, featureLine, validLine, startLine, guardedMove, moveLine, moved, readLine, ended, readLines, last, readSheet}
+use Rattle.sheet.specs.Reading as reading
+use Rattle.family.specs.Ways.{Valid, Reached, begin, by}
+use Rattle.verdicts.specs.declared.Verdict.the-variants.{Dead}
+use Rattle.verdicts.specs.Verdicts.{Makes, MissedIn, JudgedAs}
+use Rattle.demands.proofs.Printed.{onto, bytes, printed, apart, each}
+
+-- fts→1
+-- feature→a
+-- valid→1
+-- start→0
+-- move→0→first→1→a
+-- move→1→second→2→!a
+unfoldable pub piecedText : List ℕ
+piecedText =
+    printed
+    ("fts\t1"
+    ∷ "feature\ta"
+    ∷ "valid\t1"
+    ∷ "start\t0"
+    ∷ "move\t0\tfirst\t1\ta"
+    ∷ "move\t1\tsecond\t2\t!a"
+    ∷ [])
+
+abbrev pub first : Move
+first = record { line = 5; from = 0; action = bytes "first"; place = 39; to = 1; guard = feature 0 }
+
+abbrev pub second : Move
+second = record { line = 6; from = 1; action = bytes "second"; place = 56; to = 2; guard = neg (feature 0) }
+
+-- the last line stands first
+abbrev pub pieced : Sheet
+pieced = record { features = record { name = bytes "a"; place = 14 } ∷ []; valid = always; start = 0; moves = second ∷ first ∷ []; stops = [] }
+
+pub pieced-read : readSheet piecedText ≡ kept pieced
+unfolding piecedText onto bytes printed cut sameBytes allNameBytes isName isAction readState run afterRun number parts readGuard readWhole holds names ftsLine featureLine validLine startLine guardedMove moveLine moved readLine reading.none ended readLines last readSheet
+pieced-read = refl
+
+zero-valid : Valid pieced 0
+unfolding holds
+zero-valid = record { is = refl }
+
+one-valid : Valid pieced 1
+unfolding holds
+one-valid = record { is = refl }
+
+-- "all valid"
+pub all-valid : (p : ℕ) → p < 2 → Valid pieced p
+all-valid zero l = zero-valid
+all-valid (suc zero) l = one-valid
+all-valid (suc (suc p)) l = absurd (omega arith)
+
+-- only a product with the feature a gets beyond state 0
+beyond : {p q : ℕ} → Reached pieced p q → 0 < q → holds (feature 0) p ≡ true
+beyond begin l = absurd (omega arith)
+beyond {p} (by {m} i w h) l =
+    each (λ m. holds (m .guard) p ≡ true → (0 < m .from → holds (feature 0) p ≡ true) → 0 < m .to → holds (feature 0) p ≡ true)
+    ((λ h far l. far (omega arith)), ((λ h far l. h), tt)) i h (λ l. beyond w l) l
+
+unmade : {p : ℕ} → Makes pieced p second → ⊥
+unfolding holds
+unmade {p} m = clash (holds (feature 0) p) (beyond (m .reached) (omega arith)) (m .held)
+  where
+    clash : (b : Bool) → b ≡ true → not b ≡ true → ⊥
+    clash true e f = apart f
+    clash false e f = apart e
+
+reached-one : Reached pieced 1 1
+unfolding holds
+reached-one = by {m = first} (List·Memᴰ·tail (List·Memᴰ·head refl)) begin refl
+
+-- product 0 does not reach state 1
+missed-later : (q : ℕ) → MissedIn pieced second q → 1 ≤ q
+unfolding holds
+missed-later zero h = absurd (apart (beyond (h .reached) (omega arith)))
+missed-later (suc q) h = omega arith
+
+pub second-judged : JudgedAs _≤_ pieced second (Dead (At 1))
+second-judged = ((λ p h. unmade (h .makes)), record { is = record { valid = one-valid; reached = reached-one; unmade = unmade }; first = missed-later })

@@ -1,0 +1,3 @@
+pub mod Behaviour
+pub mod Clean
+pub mod Faults

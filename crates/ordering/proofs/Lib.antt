@@ -1,0 +1,4 @@
+pub mod Laws
+pub mod Places
+pub mod Turns
+pub mod Determined

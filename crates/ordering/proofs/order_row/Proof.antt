@@ -1,0 +1,41 @@
+-- `order_row` meets its contract: a row that no product makes is passed over, any other is put in. Assumes nothing.
+use native.Mathlib.Omega.{arith}
+use Rattle.ordering.proofs.Turns.{row-dead, row-made, orders-pass, orders-take}
+use borrow.Author.Needs.{needs}
+use Rattle.ordering.proofs.order_row.Statement.{statement}
+use Rattle.ordering.proofs.order_row.Tie as tie
+
+returns : tie.Need-returns
+returns c = (
+  λ first l o. orders-pass o (row-dead _ _ _ _ _ (c .before .before .before .both .ensures) _ (c .before .before .least .ensures) (c .enum-told2 .given .1)),
+  search needs,
+)
+
+returns-2 : tie.Need-returns-2
+returns-2 c = (
+  λ first l o.
+      orders-take o (c .insert .ensures)
+      (row-made _ _ _ _ _ (c .before .before .before .before .before .both .ensures) _ (c .before .before .before .before .least .ensures) (c .before .before .enum-told .given .1))
+      l (omega arith),
+  search needs,
+)
+
+pub order-row-spec : {M : Type 1} → statement M
+order-row-spec =
+    tie.close
+    (tie.spec
+    (λ c. search needs)
+    (λ c. search needs)
+    (λ c. search needs)
+    (λ c. search needs)
+    (λ c. search needs)
+    (λ c. search needs)
+    (λ c. search needs)
+    (λ c κs. search needs)
+    (λ c κs. search needs)
+    (λ c. search needs)
+    (λ c. search needs)
+    returns
+    (λ c κs. search needs)
+    (λ c. search needs)
+    returns-2)
