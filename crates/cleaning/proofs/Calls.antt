@@ -1,20 +1,21 @@
--- The clean sheet from its parts, and what the outermost call leaves: refused by 11 with the room kept, or done. The dry run and the run lay the same
--- text, because only one text is a sheet's clean sheet. Assumes nothing.
+-- The clean sheet from its parts, and what the outermost call leaves: refused by 11 with the room kept, or done. Two runs lay the same text, because
+-- only one text is a sheet's clean sheet. Assumes nothing.
 use mathlib.Core.Path.{_≡_, refl, sym, ap, _∙_}
 use mathlib.Core.List.{List, [], _∷_, _++_}
-use mathlib.Core.Logic.{_⊎_, inl, inr}
-use Prim.Native.Nat.{ℕ, _%_, _≤_, _<_, min}
+use mathlib.Core.Logic.{_⊎_, inl, inr, ⊎-elim}
+use Prim.Native.Nat.{ℕ, _-_, _%_, _≤_, _<_, min}
+use native.Mathlib.Nat.{eq-or-lt-of-le}
 use native.Mathlib.Omega.{arith}
-use lib.ListN.{length, getD, drop}
+use lib.ListN.{length, getD, take, drop}
 use Rattle.text.specs.Text.{limit, Wrote}
-use Rattle.text.proofs.Laws.{wrote-then, dry-place, dry-untouched, dry-refused, dry-done}
+use Rattle.text.proofs.Laws.{wrote-then, wrote-text, wrote-whole, wrote-end, dry-place}
 use Rattle.guards.specs.Guard.{Guard}
 use Rattle.guards.specs.Reading.{namesOf}
 use Rattle.sheet.specs.declared.Counts.{Counts}
 use Rattle.sheet.specs.Sheet.{Feature, Move, Stop, Sheet, names}
 use Rattle.sheet.specs.Reading.{kept, refused, readSheet}
 use Rattle.sheet.specs.Spelling.{featureFields, validFields, startFields, moveRow, stopRow, textOf}
-use Rattle.sheet.specs.Tables.{Rows, tables, StandsFor}
+use Rattle.sheet.specs.Tables.{Rows, Tables, tables, StandsFor}
 use Rattle.sheet.proofs.Accepted.{accepted}
 use Rattle.family.specs.Rounds.{stepAt, Spread}
 use Rattle.family.proofs.Meaning.{spread-reaches}
@@ -22,7 +23,7 @@ use Rattle.splitting.specs.Splitting.{inSet, guardOf}
 use Rattle.ordering.specs.Ordering.{keyAt, MadeRow, Orders}
 use Rattle.normal.specs.Clean.{IsClean}
 use Rattle.normal.proofs.Unique.{is-clean-unique}
-use Rattle.cleaning.specs.Forms.{lineOf, linesOf, RowMove, StopsBelow, FormOf, Ready}
+use Rattle.cleaning.specs.Forms.{lineOf, linesOf, RowMove, StopsBelow, FormOf, Prepared}
 use Rattle.cleaning.specs.Promise.{TooLong, Cleaned}
 use Rattle.cleaning.proofs.Texts.{text-parts}
 use Rattle.cleaning.proofs.Established.{established}
@@ -60,50 +61,71 @@ whole-clean {s} {valid} {c = c} {ns} u v w x (ms, rows, y) (ds, below, z) t h =
 
 -- ---- the outermost call
 
-module _ {s v first order : List ℕ} {ns m g t h sets : List (List ℕ)} {c : Counts} {depth many : ℕ}
-    (got : (r : Sheet) × (readSheet s ≡ kept r) × StandsFor s (tables ns v m g t h) c r)
-    (spread : Spread (c .start % 64) v (stepAt m g) (min (c .moves) 256) sets depth)
-    (orders : Orders (keyAt s m) (MadeRow m g sets) (min (c .moves) 256) first order many) where
+-- the tables that were read, the states' sets and the ordered rows
+pub prepared : {s v first order : List ℕ} {ns m g t h sets : List (List ℕ)} {c : Counts} {depth many : ℕ}
+    → (r : Sheet) × (readSheet s ≡ kept r) × StandsFor s (tables ns v m g t h) c r
+    → Spread (c .start % 64) v (stepAt m g) (min (c .moves) 256) sets depth
+    → Orders (keyAt s m) (MadeRow m g sets) (min (c .moves) 256) first order many → Prepared s c (tables ns v m g t h) sets order many
+prepared {s} {first = first} (r, read, stands) spread orders =
+    let ok = accepted s read in
+    record {
+      sheet = r;
+      read = read;
+      ready = record { stands = stands; accepted = ok; reaches = spread-reaches stands ok spread };
+      first = first;
+      orders = orders;
+    }
+
+-- more than the smaller of two is more than one of them
+longer-than : (a b : ℕ) {n : ℕ} → min a b < n → (b < n) ⊎ (a < n)
+longer-than a b h =
+    ⊎-elim (λ (e : min a b ≡ a). inr (omega arith)) (λ (e : min a b < a). inl (omega arith)) (eq-or-lt-of-le (omega arith))
+
+module _ {s order : List ℕ} {c : Counts} {T : Tables} {sets : List (List ℕ)} {many : ℕ} (p : Prepared s c T sets order many) where
   -- a run of `put_clean` in the room l
   abbrev Lays : List ℕ → List ℕ → ℕ → Type 0
-  Lays l l′ n = (t h : List (List ℕ)) → (f : Sheet) × FormOf s c (tables ns v m g t h) sets order many f × Wrote l 0 (textOf f) l′ n
+  Lays l l′ n = (f : Sheet) × FormOf s c T sets order many f × Wrote l 0 (textOf f) l′ n
 
   -- it lays the clean sheet of the sheet that was read
-  lays : {l l′ : List ℕ} {n : ℕ} → Lays l l′ n → (vs : List ℕ) × IsClean (got .0) vs × Wrote l 0 vs l′ n
-  lays run =
-      let ok = accepted s (got .1) in
-      let ready : Ready s c (tables ns v m g t h) sets (got .0) = record { stands = got .2; accepted = ok; reaches = spread-reaches (got .2) ok spread } in
-      let (f, form, w) = run t h in
-      (textOf f, record { form = f; clean = established s c (tables ns v m g t h) sets first order many f (got .0) ready orders form; is = refl }, w)
+  lays : {l l′ : List ℕ} {n : ℕ} → Lays l l′ n → (vs : List ℕ) × IsClean (p .sheet) vs × Wrote l 0 vs l′ n
+  lays (f, form, w) =
+      (textOf f, record { form = f; clean = established s c T sets (p .first) order many f (p .sheet) (p .ready) (p .orders) form; is = refl }, w)
 
-  pub too-many : {d : List ℕ} {n : ℕ} (l : List ℕ) → Lays [] d n → 65536 < n → (d ++ l ≡ l) × ((readSheet s ≡ refused 11 0) ⊎ TooLong s l 11 0)
-  too-many l run longer =
+  -- the text is longer than the room l, or than 65,536
+  pub too-long : {d d′ : List ℕ} {n : ℕ} {most : ℕ} (l : List ℕ) → Lays d d′ n → most ≡ min (length l) 65536 → most < n → (l ≡ l) × ((readSheet s ≡ refused 11 0) ⊎ TooLong s l 11 0)
+  too-long l run e h =
       let (vs, is, w) = lays run in
       let place = dry-place w in
-      (dry-untouched w l, inr (record { number = refl; line = refl; sheet = got .0; accepted = got .1; text = vs; clean = is; longer = inl (omega arith) }))
+      (refl, inr (record { number = refl; line = refl; sheet = p .sheet; accepted = p .read; text = vs; clean = is; longer = longer-than (length l) 65536 (omega arith) }))
 
-  pub too-long : {d : List ℕ} {n : ℕ} (l : List ℕ) → Lays [] d n → length (d ++ l) < n → length l < limit
-      → (d ++ l ≡ l) × ((readSheet s ≡ refused 11 0) ⊎ TooLong s l 11 0)
-  too-long l run longer b =
-      let (vs, is, w) = lays run in
-      let z = dry-refused l w longer b in
-      (z .1, inr (record { number = refl; line = refl; sheet = got .0; accepted = got .1; text = vs; clean = is; longer = inr (z .0) }))
-
-  pub done : {d l′ : List ℕ} {n k : ℕ} (l : List ℕ) → Lays [] d n → Lays (d ++ l) l′ k → n ≤ 65536 → n ≤ length (d ++ l) → length l < limit → Cleaned s l l′ k
-  done l dry run short fits b =
-      let (us, is-dry, u) = lays dry in
-      let (vs, is, w) = lays run in
-      let e = is-clean-unique is-dry is in
-      let same = rw e at u in
-      let place = dry-place same in
-      let z = dry-done l same w fits b in
+  -- a text that fits was laid in the room l
+  cleaned : {l vs l′ : List ℕ} {k : ℕ} → IsClean (p .sheet) vs → Wrote l 0 vs l′ k → length vs ≤ min (length l) 65536 → Cleaned s l l′ k
+  cleaned {l} {vs} is w h =
+      let fits : length vs ≤ length l = omega arith in
+      let e = wrote-end w fits in
       record {
-        sheet = got .0;
-        accepted = got .1;
+        sheet = p .sheet;
+        accepted = p .read;
         text = vs;
         clean = is;
         short = omega arith;
-        fits = z .0;
-        is-length = z .1;
-        laid = z .2 ∙ ap (λ (i : ℕ). vs ++ drop i l) (sym (z .1));
+        fits = fits;
+        is-length = e;
+        laid = wrote-whole w fits ∙ ap (λ (i : ℕ). vs ++ drop i l) (sym e);
       }
+
+  -- the text was copied from the room of its own that it fits
+  pub copied : {d d′ l l′ : List ℕ} {n k most : ℕ} → Lays d d′ n → Wrote l 0 (take (n - 0) (drop 0 d′)) l′ k → n ≤ length d → most ≡ min (length l) 65536 → n ≤ most → Cleaned s l l′ k
+  copied {n = n} run w own e h =
+      let (vs, is, v) = lays run in
+      let place = dry-place v in
+      let long : n - 0 ≡ length vs = omega arith in
+      cleaned is (rw (long, wrote-text v (omega arith)) at w) (omega arith)
+
+  -- it was made once more
+  pub again : {d d′ l l′ : List ℕ} {n k most : ℕ} → Lays d d′ n → Lays l l′ k → most ≡ min (length l) 65536 → n ≤ most → Cleaned s l l′ k
+  again dry run e h =
+      let (us, is-dry, u) = lays dry in
+      let (vs, is, w) = lays run in
+      let place = dry-place (rw (is-clean-unique is-dry is) at u) in
+      cleaned is w (omega arith)

@@ -13,10 +13,12 @@ use Rattle.sheet.specs.declared.Counts.{Counts}
 use Rattle.sheet.specs.Sheet.{Move, Stop, Sheet, names}
 use Rattle.sheet.specs.Tables.{Rows, Tables, StandsFor}
 use Rattle.sheet.specs.Accepted.{Accepted}
+use Rattle.sheet.specs.Reading.{readSheet, kept}
 use Rattle.sheet.specs.Spelling.{Fields}
 use Rattle.family.specs.Ways.{Reaches}
 use Rattle.verdicts.specs.Judging.{InBoth, InOnly, guardsAt}
 use Rattle.splitting.specs.Splitting.{inSet, guardOf}
+use Rattle.ordering.specs.Ordering.{keyAt, MadeRow, Orders}
 
 -- ---- texts of lines
 
@@ -70,3 +72,11 @@ pub record Ready (s : List ℕ) (c : Counts) (T : Tables) (sets : List (List ℕ
   pub stands : StandsFor s T c r
   pub accepted : Accepted r
   pub reaches : Reaches r (λ q. getD sets q [])
+
+-- all that the form is made from is for the sheet that s reads as; the rows in order are those of the kept moves
+pub record Prepared (s : List ℕ) (c : Counts) (T : Tables) (sets : List (List ℕ)) (order : List ℕ) (many : ℕ) : Type 0 where
+  pub sheet : Sheet
+  pub read : readSheet s ≡ kept sheet
+  pub ready : Ready s c T sets sheet
+  pub first : List ℕ
+  pub orders : Orders (keyAt s (T .moves)) (MadeRow (T .moves) (T .moveGuards) sets) (min (c .moves) 256) first order many

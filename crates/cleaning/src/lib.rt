@@ -11,7 +11,7 @@ ghost use Rattle.guards.specs.Reading.{namesOf};
 ghost use Rattle.sheet.specs.Sheet.{Move, Stop, Sheet};
 ghost use Rattle.sheet.specs.Tables.{Rows, tables};
 ghost use Rattle.sheet.specs.Spelling.{featureFields, moveRow, stopRow, textOf};
-ghost use Rattle.cleaning.specs.Forms.{linesOf, RowMove, StopsBelow, FormOf};
+ghost use Rattle.cleaning.specs.Forms.{linesOf, RowMove, StopsBelow, FormOf, Prepared};
 ghost use Rattle.cleaning.specs.Promise.{CleanPromise};
 use line::put_feature;
 use line::put_move;
@@ -29,6 +29,9 @@ pub enum Answer {
 
 const MOST_BYTES: usize = 65536;
 
+// Nearly every clean sheet is shorter.
+const OWN_BYTES: usize = 12288;
+
 // Lays the clean form of the sheet `text` into `room`.
 pub fn clean(text: &[u8], room: &mut [u8]) -> Answer
     ensures { λ r. ⌜ CleanPromise (now (text .entry)) (now (room .entry)) (now (room .exit)) r ⌝ }
@@ -39,7 +42,7 @@ pub fn clean(text: &[u8], room: &mut [u8]) -> Answer
     let mut move_guards = [[0u64; 16]; 256];
     let mut stops = [[0usize; 2]; 64];
     let mut stop_guards = [[0u64; 16]; 64];
-    let r = sheet::read_sheet(
+    let r = sheet::read_blank(
         text,
         &mut names,
         &mut valid,
@@ -55,25 +58,7 @@ pub fn clean(text: &[u8], room: &mut [u8]) -> Answer
     family::spread(c.start, valid, c.moves, &moves, &move_guards, &mut sets);
     let mut order = [0usize; 256];
     let kept = ordering::order_moves(text, c.moves, &moves, &move_guards, &sets, &mut order);
-    let n = put_clean(
-        &mut room[..0],
-        text,
-        c,
-        &names,
-        valid,
-        &moves,
-        &move_guards,
-        &sets,
-        &order,
-        kept,
-    );
-    if MOST_BYTES < n {
-        return refuse(11, 0);
-    }
-    if room.len() < n {
-        return refuse(11, 0);
-    }
-    let m = put_clean(
+    lay(
         room,
         text,
         c,
@@ -84,7 +69,46 @@ pub fn clean(text: &[u8], room: &mut [u8]) -> Answer
         &sets,
         &order,
         kept,
+    )
+}
+
+// Lays the clean sheet into the room if it is not too long. It is made in a room of its own, which
+// tells its length; what outgrows that one is made again in the room itself.
+fn lay(
+    room: &mut [u8],
+    text: &[u8],
+    c: Counts,
+    names: &[[usize; 2]; 10],
+    valid: [u64; 16],
+    moves: &[[usize; 6]; 256],
+    guards: &[[u64; 16]; 256],
+    sets: &[[u64; 16]; 64],
+    rows: &[usize; 256],
+    kept: usize,
+) -> Answer
+    ensures { λ r. ⌜ ((t h : List (List ℕ)) → Prepared (now (text .entry)) c (tables (now (names .entry)) valid (now (moves .entry)) (now (guards .entry)) t h) (now (sets .entry)) (now (rows .entry)) kept → CleanPromise (now (text .entry)) (now (room .entry)) (now (room .exit)) r) ⌝ }
+{
+    let mut own = [0u8; OWN_BYTES];
+    let n = put_clean(
+        &mut own,
+        text,
+        c,
+        names,
+        valid,
+        moves,
+        guards,
+        sets,
+        rows,
+        kept,
     );
+    if counts::at_most(room.len(), MOST_BYTES) < n {
+        return refuse(11, 0);
+    }
+    if n <= OWN_BYTES {
+        let k = text::put_bytes(room, 0, &own[0..n]);
+        return Answer::Done(k);
+    }
+    let m = put_clean(room, text, c, names, valid, moves, guards, sets, rows, kept);
     Answer::Done(m)
 }
 
@@ -139,16 +163,6 @@ fn put_clean(
     put_stops(room, f, text, names, features, c.moves, moves, guards, sets)
 }
 
-// The smaller of the two.
-fn at_most(count: usize, most: usize) -> usize
-    ensures { λ r. ⌜ r ≡ min count most ⌝ }
-{
-    if most < count {
-        return most;
-    }
-    count
-}
-
 // The feature lines, as they are.
 fn put_features(
     room: &mut [u8],
@@ -159,7 +173,7 @@ fn put_features(
 ) -> usize
     ensures { λ r. ⌜ Wrote (now (room .entry)) at (linesOf featureFields (namesOf (now (text .entry)) (now (names .entry)) (min count 10))) (now (room .exit)) r ⌝ }
 {
-    let n = at_most(count, 10);
+    let n = counts::at_most(count, 10);
     let mut next = at;
     let mut i = 0;
     while i < n {
@@ -184,7 +198,7 @@ fn put_moves(
 ) -> usize
     ensures { λ r. ⌜ ((ms : List Move) × Rows (λ i m. RowMove (now (text .entry)) (min features 10) (now (moves .entry)) (now (guards .entry)) (now (sets .entry)) (getD (now (order .entry)) i 0 % 256) m) (min kept 256) ms × Wrote (now (room .entry)) at (linesOf (moveRow (namesOf (now (text .entry)) (now (names .entry)) (min features 10))) ms) (now (room .exit)) r) ⌝ }
 {
-    let n = at_most(kept, 256);
+    let n = counts::at_most(kept, 256);
     let mut next = at;
     let mut i = 0;
     while i < n {
@@ -220,11 +234,11 @@ fn put_stops(
 ) -> usize
     ensures { λ r. ⌜ ((ds : List Stop) × StopsBelow (min features 10) (now (moves .entry)) (now (guards .entry)) (now (sets .entry)) (min count 256) 64 ds × Wrote (now (room .entry)) at (linesOf (stopRow (namesOf (now (text .entry)) (now (names .entry)) (min features 10))) ds) (now (room .exit)) r) ⌝ }
 {
+    let out = verdicts::all_out(count, moves, guards);
     let mut next = at;
     let mut q = 0;
     while q < 64 {
-        let out = verdicts::out_of(q, count, moves, guards);
-        next = put_stop(room, next, text, names, features, q, sets[q], out);
+        next = put_stop(room, next, text, names, features, q, sets[q], out[q]);
         q += 1;
     }
     next

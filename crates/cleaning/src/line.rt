@@ -88,7 +88,7 @@ fn put_made(
 ) -> usize
     ensures { λ r. ⌜ ((g : Guard) × MadeGuard (min features 10) here guard g × Wrote (now (room .entry)) at (print g (namesOf (now (text .entry)) (now (names .entry)) (min features 10)) List.[]) (now (room .exit)) r) ⌝ }
 {
-    let missed = products::least(products::without(here, guard));
+    let missed = members::least(products::without(here, guard));
     let Found::At(_) = missed else {
         return text::put(room, at, b'1');
     };
@@ -108,12 +108,12 @@ pub(crate) fn put_stop(
 ) -> usize
     ensures { λ r. ⌜ ((ds : List Stop) × StopAt (min features 10) here out q ds × Wrote (now (room .entry)) at (linesOf (stopRow (namesOf (now (text .entry)) (now (names .entry)) (min features 10))) ds) (now (room .exit)) r) ⌝ }
 {
-    let leaving = products::least(products::both(here, out));
+    let leaving = members::least(products::both(here, out));
     let Found::At(_) = leaving else {
         return at;
     };
     let stays = products::without(here, out);
-    let some = products::least(stays);
+    let some = members::least(stays);
     let Found::At(_) = some else {
         return at;
     };

@@ -139,9 +139,6 @@ level-never : (p : ℕ) → holds boatAndNot p ≡ true → ⊥
 unfolding holds partsHold
 level-never p h = never-both (eqb (bit p 1) 1) h
 
-way-zero : (p : ℕ) → Way dish p 0 0
-way-zero p = none
-
 way-one : {p : ℕ} → Valid dish p → Way dish p 1 1
 way-one {p} v = more {m = raise} has-raise none (valid-parts v .1)
 

@@ -121,19 +121,3 @@ clear-onto : (m : ℕ) (t : Bool) (b : ℕ) (ls : List (List ℕ)) → (t ≡ fa
 clear-onto m true b ls f c = (tt, c)
 clear-onto m false b [] f c = ((f refl, tt), tt)
 clear-onto m false b (l ∷ ls) f c = ((f refl, c .0), c .1)
-
-cut-clear : (m : ℕ) (z : List (List ℕ)) (l : List ℕ) → AllClear m z → AllClear m (cut m z l)
-unfolding cut
-cut-clear m z [] c = c
-cut-clear m z (b ∷ l) c = clear-onto m (eqb b m) b (cut m z l) (λ e. e) (cut-clear m z l c)
-
-pub fields-clear : (l : List ℕ) → AllClear 9 (fields l)
-fields-clear l = cut-clear 9 ([] ∷ []) l (tt, tt)
-
-pub lines-clear : (s : List ℕ) → AllClear 10 (lines s)
-lines-clear s = cut-clear 10 [] s tt
-
-pub fields-clear-of : (m : ℕ) (l : List ℕ) → Clear m l → AllClear m (fields l)
-unfolding cut
-fields-clear-of m [] c = (tt, tt)
-fields-clear-of m (b ∷ l) c = clear-onto m (eqb b 9) b (fields l) (λ e. c .0) (fields-clear-of m l (c .1))

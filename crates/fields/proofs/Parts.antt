@@ -23,13 +23,6 @@ module _ (s : List ℕ) (a e : ℕ) where
   unfolding part
   part-none h = let z : e - a ≡ 0 = omega arith in rw z
 
-  pub part-cons : a < e → e ≤ length s → part s a e ≡ getD s a 0 ∷ part s (a + 1) e
-  unfolding part
-  part-cons h m =
-      let z : e - a ≡ suc (e - (a + 1)) = omega arith in
-      let l : a < length s = omega arith in
-      rw (z, headed s a l)
-
   pub part-length : e ≤ length s → length (part s a e) ≡ e - a
   unfolding part
   part-length h = simp (length-take, length-drop) (omega arith)
@@ -66,10 +59,3 @@ module _ (s : List ℕ) (a e : ℕ) where
 
 pub part-rest : (s : List ℕ) (at : ℕ) → part s at (length s) ≡ drop at s
 part-rest s at = part-over s at (length s) (omega arith)
-
-pub part-whole : (s : List ℕ) → part s 0 (length s) ≡ s
-part-whole s = part-rest s 0
-
-pub part-take : (s : List ℕ) (b : ℕ) → part s 0 b ≡ take b s
-unfolding part
-part-take s b = let z : b - 0 ≡ b = omega arith in rw z

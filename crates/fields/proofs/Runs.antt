@@ -74,20 +74,10 @@ by-first P b bs f g = told (isNameByte b) f g
     told true f g = f refl
     told false f g = g refl
 
-pub run-names : (bs : List ℕ) → allNameBytes (run bs) ≡ true
-unfolding run allNameBytes
-run-names [] = refl
-run-names (b ∷ bs) = by-first (λ x y. allNameBytes x ≡ true) b bs (λ e. and-eq-true-iff (isNameByte b) (allNameBytes (run bs)) .1 (e, run-names bs)) (λ e. refl)
-
 pub run-after : (bs : List ℕ) → run bs ++ afterRun bs ≡ bs
 unfolding run afterRun
 run-after [] = refl
 run-after (b ∷ bs) = by-first (λ x y. x ++ y ≡ b ∷ bs) b bs (λ e. ap (λ (l : List ℕ). b ∷ l) (run-after bs)) (λ e. refl)
-
-pub after-stops : (bs : List ℕ) → Stops (afterRun bs)
-unfolding afterRun
-after-stops [] = tt
-after-stops (b ∷ bs) = by-first (λ x y. Stops y) b bs (λ e. after-stops bs) (λ e. e)
 
 pub run-all : (x rest : List ℕ) → allNameBytes x ≡ true → Stops rest → (run (x ++ rest) ≡ x) × (afterRun (x ++ rest) ≡ rest)
 unfolding allNameBytes

@@ -58,9 +58,3 @@ alike : (t u : Bool) → (t ≡ true → u ≡ true) → (u ≡ true → t ≡ t
 alike true u f g = sym (f refl)
 alike false true f g = g refl
 alike false false f g = refl
-
-same-back : (x y : List ℕ) → sameBytes x y ≡ true → sameBytes y x ≡ true
-same-back x y e = rw (same-true x y e) (same-self y)
-
-pub same-swap : (x y : List ℕ) → sameBytes x y ≡ sameBytes y x
-same-swap x y = alike (sameBytes x y) (sameBytes y x) (same-back x y) (same-back y x)

@@ -1,11 +1,9 @@
-// Lines cut into fields; names, actions and states told from other bytes. Every function takes whole
-// slices, asks nothing of its caller and writes nothing. What a field means in its line is not known here.
+// Bytes of a line: where a mark stands, a part, the same bytes, the run of a name. Every function takes
+// whole slices, asks nothing of its caller and writes nothing. What a field says is told in `values`, and
+// how a line is cut in `cutting`.
 ghost use mathlib.Core.Path.{_≡_};
-ghost use mathlib.Core.List.{List, _∷_};
-ghost use Prim.Native.Nat.{ℕ, _+_, _-_, _≤_, _<_};
-ghost use lib.ListN.{length, drop, take, getD};
-ghost use Rattle.fields.specs.Bytes.{part, pieceOf, sameBytes, isLetter, isNameByte, allNameBytes, isName, isAction, readState, FirstAt, RunEnd};
-ghost use Rattle.fields.specs.Cutting.{IsOne, CutsTwo, CutsFour};
+ghost use Prim.Native.Nat.{_+_, _-_, _<_};
+ghost use Rattle.fields.specs.Bytes.{pieceOf, sameBytes, isLetter, isNameByte, FirstAt, RunEnd};
 
 // A number that was read, or that the bytes are none.
 pub enum Number {
@@ -25,10 +23,35 @@ pub enum FourFields {
     NotFour,
 }
 
-const TAB: u8 = 9;
-
-// The first place from `from` on at which s has the byte m, or the end of s.
+// The first place from `from` on at which s has the byte m, or the end of s. Four bytes a turn, which
+// halves the steps.
 pub fn find(s: &[u8], m: u8, from: usize) -> usize
+    ensures { λ r. ⌜ FirstAt (now (s .entry)) m from r ⌝ }
+{
+    let mut i = from;
+    while i < s.len() {
+        if s.len() - i < 4 {
+            return find_near(s, m, i);
+        }
+        if s[i] == m {
+            return i;
+        }
+        if s[i + 1] == m {
+            return i + 1;
+        }
+        if s[i + 2] == m {
+            return i + 2;
+        }
+        if s[i + 3] == m {
+            return i + 3;
+        }
+        i += 4;
+    }
+    s.len()
+}
+
+// The same, byte by byte.
+fn find_near(s: &[u8], m: u8, from: usize) -> usize
     ensures { λ r. ⌜ FirstAt (now (s .entry)) m from r ⌝ }
 {
     let mut i = from;
@@ -101,48 +124,6 @@ pub fn is_name_byte(b: u8) -> bool
     b == b'_'
 }
 
-fn all_name_bytes(s: &[u8]) -> bool
-    ensures { λ r. ⌜ r ≡ allNameBytes (now (s .entry)) ⌝ }
-{
-    let mut i = 0;
-    while i < s.len() {
-        if !is_name_byte(s[i]) {
-            return false;
-        }
-        i += 1;
-    }
-    true
-}
-
-// Whether s is a good feature name.
-pub fn is_name(s: &[u8]) -> bool
-    ensures { λ r. ⌜ r ≡ isName (now (s .entry)) ⌝ }
-{
-    if s.len() == 0 {
-        return false;
-    }
-    if !is_letter(s[0]) {
-        return false;
-    }
-    if 12 < s.len() {
-        return false;
-    }
-    all_name_bytes(s)
-}
-
-// Whether s is a good action.
-pub fn is_action(s: &[u8]) -> bool
-    ensures { λ r. ⌜ r ≡ isAction (now (s .entry)) ⌝ }
-{
-    if s.len() < 1 {
-        return false;
-    }
-    if 24 < s.len() {
-        return false;
-    }
-    all_name_bytes(s)
-}
-
 // Where the run of name bytes that begins at `at` ends; past the end of s, that end.
 pub fn run_end(s: &[u8], at: usize) -> usize
     ensures { λ r. ⌜ RunEnd (now (s .entry)) at r ⌝ }
@@ -155,102 +136,4 @@ pub fn run_end(s: &[u8], at: usize) -> usize
         i += 1;
     }
     s.len()
-}
-
-// The state that s spells.
-pub fn read_state(s: &[u8]) -> Number
-    ensures { λ r. ⌜ r ≡ readState (now (s .entry)) ⌝ }
-{
-    if s.len() == 1 {
-        return one_digit(s[0]);
-    }
-    if s.len() == 2 {
-        return two_digits(s[0], s[1]);
-    }
-    Number::Bad
-}
-
-fn wide(b: u8) -> usize
-    ensures { λ r. ⌜ r ≡ b ⌝ }
-{
-    b as usize
-}
-
-fn one_digit(a: u8) -> Number
-    ensures { λ r. ⌜ r ≡ readState (a ∷ List.[]) ⌝ }
-{
-    if a < b'0' {
-        return Number::Bad;
-    }
-    if b'9' < a {
-        return Number::Bad;
-    }
-    Number::Of(wide(a) - 48)
-}
-
-fn two_digits(a: u8, b: u8) -> Number
-    ensures { λ r. ⌜ r ≡ readState (a ∷ b ∷ List.[]) ⌝ }
-{
-    if a <= b'0' {
-        return Number::Bad;
-    }
-    if b'9' < a {
-        return Number::Bad;
-    }
-    if b < b'0' {
-        return Number::Bad;
-    }
-    if b'9' < b {
-        return Number::Bad;
-    }
-    let v = (wide(a) - 48) * 10 + (wide(b) - 48);
-    if v <= 63 { Number::Of(v) } else { Number::Bad }
-}
-
-// Whether l is one field.
-pub fn is_one(l: &[u8]) -> bool
-    ensures { λ r. ⌜ IsOne (now (l .entry)) r ⌝ }
-{
-    if find(l, TAB, 0) < l.len() {
-        return false;
-    }
-    true
-}
-
-// Cuts l where it is two fields.
-pub fn cut_two(l: &[u8]) -> TwoFields
-    ensures { λ r. ⌜ CutsTwo (now (l .entry)) r ⌝ }
-{
-    let b = find(l, TAB, 0);
-    if l.len() <= b {
-        return TwoFields::NotTwo;
-    }
-    let c = find(l, TAB, b + 1);
-    if c < l.len() {
-        return TwoFields::NotTwo;
-    }
-    TwoFields::Parted(b)
-}
-
-// Cuts l where it is four fields.
-pub fn cut_four(l: &[u8]) -> FourFields
-    ensures { λ r. ⌜ CutsFour (now (l .entry)) r ⌝ }
-{
-    let b = find(l, TAB, 0);
-    if l.len() <= b {
-        return FourFields::NotFour;
-    }
-    let c = find(l, TAB, b + 1);
-    if l.len() <= c {
-        return FourFields::NotFour;
-    }
-    let d = find(l, TAB, c + 1);
-    if l.len() <= d {
-        return FourFields::NotFour;
-    }
-    let f = find(l, TAB, d + 1);
-    if f < l.len() {
-        return FourFields::NotFour;
-    }
-    FourFields::Ends { b, c, d }
 }

@@ -15,10 +15,6 @@ abbrev pub rowName : List ℕ → List (List ℕ) → ℕ → List ℕ
 rowName s t k = pieceOf s (getD (getD t k []) 0 0) (getD (getD t k []) 1 0)
 
 module _ (s : List ℕ) (t : List (List ℕ)) where
-  pub names-none : namesOf s t 0 ≡ []
-  unfolding namesOf
-  names-none = refl
-
   pub names-more : (k : ℕ) → namesOf s t (suc k) ≡ rowName s t k ∷ namesOf s t k
   unfolding namesOf
   names-more k = refl

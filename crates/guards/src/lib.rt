@@ -44,7 +44,7 @@ pub fn read_whole(text: &[u8], names: &[[usize; 2]; 10], count: usize, field: &[
 pub fn find_name(text: &[u8], names: &[[usize; 2]; 10], count: usize, name: &[u8]) -> Found
     ensures { λ r. ⌜ r ≡ number (namesOf (now (text .entry)) (now (names .entry)) (min count 10)) (now (name .entry)) ⌝ }
 {
-    let mut i = at_most_ten(count);
+    let mut i = counts::at_most(count, 10);
     while 0 < i {
         i -= 1;
         let row = names[i];
@@ -55,15 +55,6 @@ pub fn find_name(text: &[u8], names: &[[usize; 2]; 10], count: usize, name: &[u8
         }
     }
     Found::Nothing
-}
-
-fn at_most_ten(count: usize) -> usize
-    ensures { λ r. ⌜ r ≡ min count 10 ⌝ }
-{
-    if 10 < count {
-        return 10;
-    }
-    count
 }
 
 fn refuse(number: u8, at: usize) -> GuardAnswer

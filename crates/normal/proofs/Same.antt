@@ -29,9 +29,6 @@ pub same-reached : {r s : Sheet} {p q : ℕ} → Same r s → Valid r p → Reac
 same-reached {r} {s} {p} x v begin = subst (λ (q : ℕ). Reached s p q) (sym (x .start)) begin
 same-reached {r} {s} {p} x v (by {m} i w h) = goes-to (x .moves p (m .from) (m .action) (m .to) v (goes-of i w h))
 
-pub same-refl : {r : Sheet} → Same r r
-same-refl = record { valid = λ p v. v; valid-back = λ p v. v; start = refl; moves = λ p f a t v g. g; moves-back = λ p f a t v g. g }
-
 pub same-sym : {r s : Sheet} → Same r s → Same s r
 same-sym x = record {
   valid = x .valid-back;

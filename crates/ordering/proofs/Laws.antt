@@ -1,21 +1,22 @@
--- The order of lists of bytes is strict and total, and a row is put in its place by carrying what comes behind it on. So the rows in order are the
--- rows with the property, each once, each before all later ones where no two have the same key. Assumes nothing.
+-- The order of lists of bytes is strict and total, and a row is put in front of the first that it is before. So the rows in order are the rows with the
+-- property, each once, none before an earlier one, and each before all later ones where no two have the same key. Assumes nothing.
 use mathlib.Core.Path.{_≡_, refl, sym, ap, ap₂, _∙_}
 use mathlib.Core.Bool.{Bool, true, false, cond}
-use mathlib.Core.List.{List, [], _∷_, List·Memᴰ, List·Memᴰ·head, List·Memᴰ·tail, List·Memᴰ·not-nil, List·Memᴰ·cases-cons, Memᴰ·cast}
+use mathlib.Core.List.{List, [], _∷_, _++_, List·Memᴰ, List·Memᴰ·head, List·Memᴰ·tail, List·Memᴰ·not-nil, List·Memᴰ·cases-cons, Memᴰ·cast}
 use mathlib.Core.Logic.{_⊎_, inl, inr, ⊎-elim}
 use Prim.Native.Nat.{ℕ, zero, suc, _%_, _≤_, _<_}
 use native.Mathlib.Omega.{arith}
 use borrow.Author.Tests.{lt-ltb, le-ltb, eq-eqb, ne-eqb}
-use lib.ListN.{length, getD, drop, List·getD-append}
+use lib.ListN.{length, getD, take, drop, List·getD-append}
 use Rattle.ordering.specs.Ordering.{lessBytes, rowKey, keyAt, insertBy, Ordered, none, takes, passes, Orders}
+use Rattle.ordering.specs.Halving.{Level}
 
 -- ---- the order of lists
 
-never : {t : Bool} → t ≡ true → t ≡ false → ⊥
+pub never : {t : Bool} → t ≡ true → t ≡ false → ⊥
 never h g = let z : _≡_ {A = ℕ} 0 1 = cc in omega arith
 
-compared : (x y : ℕ) → (x < y) ⊎ ((x ≡ y) ⊎ (y < x))
+pub compared : (x y : ℕ) → (x < y) ⊎ ((x ≡ y) ⊎ (y < x))
 compared zero zero = inr (inl refl)
 compared zero (suc y) = inl (omega arith)
 compared (suc x) zero = inr (inr (omega arith))
@@ -84,6 +85,14 @@ less-total (a ∷ x) (b ∷ y) f h = step (compared a b) (less-total x y)
     step (inr (inl e)) k = less-rest b a y x (sym e) ∙ k (λ d. f (ap₂ (λ (c : ℕ) (l : List ℕ). c ∷ l) e d)) (sym (less-rest a b x y e) ∙ h)
     step (inr (inr l)) k = less-first b a y x l
 
+-- what is not before y, which x is before, is behind x
+pub less-near : (x y z : List ℕ) → lessBytes x y ≡ true → lessBytes z y ≡ false → lessBytes x z ≡ true
+less-near x y z h g = decided (lessBytes x z) refl
+  where
+    decided : (t : Bool) → lessBytes x z ≡ t → lessBytes x z ≡ true
+    decided true e = e
+    decided false e = absurd (never (less-trans z x y (less-total x z (λ d. never h (rw d g)) e) h) g)
+
 -- ---- a row put in its place
 
 pub insert-here : (key : ℕ → List ℕ) (x : ℕ) (ys : List ℕ) → List·Memᴰ x (insertBy key x ys)
@@ -91,35 +100,30 @@ unfolding insertBy
 insert-here key x [] = List·Memᴰ·head refl
 insert-here key x (y ∷ ys) = go (lessBytes (key x) (key y)) (insert-here key x ys)
   where
-    go : (t : Bool) → List·Memᴰ x (insertBy key x ys) → List·Memᴰ x (cond t (x ∷ insertBy key y ys) (y ∷ insertBy key x ys))
+    go : (t : Bool) → List·Memᴰ x (insertBy key x ys) → List·Memᴰ x (cond t (x ∷ y ∷ ys) (y ∷ insertBy key x ys))
     go true m = List·Memᴰ·head refl
     go false m = List·Memᴰ·tail m
 
 pub insert-there : (key : ℕ → List ℕ) (x : ℕ) (ys : List ℕ) (z : ℕ) → List·Memᴰ z ys → List·Memᴰ z (insertBy key x ys)
 unfolding insertBy
 insert-there key x [] z m = absurd (List·Memᴰ·not-nil m)
-insert-there key x (y ∷ ys) z m = go (lessBytes (key x) (key y)) (List·Memᴰ·cases-cons m) (insert-there key x ys z) (insert-there key y ys z)
+insert-there key x (y ∷ ys) z m = go (lessBytes (key x) (key y)) (List·Memᴰ·cases-cons m) (insert-there key x ys z)
   where
-    go : (t : Bool) → (z ≡ y) ⊎ List·Memᴰ z ys → (List·Memᴰ z ys → List·Memᴰ z (insertBy key x ys)) → (List·Memᴰ z ys → List·Memᴰ z (insertBy key y ys))
-        → List·Memᴰ z (cond t (x ∷ insertBy key y ys) (y ∷ insertBy key x ys))
-    go true (inl e) f g = List·Memᴰ·tail (Memᴰ·cast e (insert-here key y ys))
-    go true (inr n) f g = List·Memᴰ·tail (g n)
-    go false (inl e) f g = List·Memᴰ·head e
-    go false (inr n) f g = List·Memᴰ·tail (f n)
+    go : (t : Bool) → (z ≡ y) ⊎ List·Memᴰ z ys → (List·Memᴰ z ys → List·Memᴰ z (insertBy key x ys))
+        → List·Memᴰ z (cond t (x ∷ y ∷ ys) (y ∷ insertBy key x ys))
+    go true e f = List·Memᴰ·tail m
+    go false (inl e) f = List·Memᴰ·head e
+    go false (inr n) f = List·Memᴰ·tail (f n)
 
 pub insert-in : (key : ℕ → List ℕ) (x : ℕ) (ys : List ℕ) (z : ℕ) → List·Memᴰ z (insertBy key x ys) → (z ≡ x) ⊎ List·Memᴰ z ys
 unfolding insertBy
 insert-in key x [] z m = List·Memᴰ·cases-cons m
-insert-in key x (y ∷ ys) z m = go (lessBytes (key x) (key y)) m (insert-in key x ys z) (insert-in key y ys z)
+insert-in key x (y ∷ ys) z m = go (lessBytes (key x) (key y)) m (insert-in key x ys z)
   where
-    go : (t : Bool) → List·Memᴰ z (cond t (x ∷ insertBy key y ys) (y ∷ insertBy key x ys)) → (List·Memᴰ z (insertBy key x ys) → (z ≡ x) ⊎ List·Memᴰ z ys)
-        → (List·Memᴰ z (insertBy key y ys) → (z ≡ y) ⊎ List·Memᴰ z ys) → (z ≡ x) ⊎ List·Memᴰ z (y ∷ ys)
-    go true n f g =
-        ⊎-elim
-        (λ e. inl e)
-        (λ k. inr (⊎-elim (λ e. List·Memᴰ·head e) (λ l. List·Memᴰ·tail l) (g k)))
-        (List·Memᴰ·cases-cons n)
-    go false n f g =
+    go : (t : Bool) → List·Memᴰ z (cond t (x ∷ y ∷ ys) (y ∷ insertBy key x ys)) → (List·Memᴰ z (insertBy key x ys) → (z ≡ x) ⊎ List·Memᴰ z ys)
+        → (z ≡ x) ⊎ List·Memᴰ z (y ∷ ys)
+    go true n f = List·Memᴰ·cases-cons n
+    go false n f =
         ⊎-elim
         (λ e. inr (List·Memᴰ·head e))
         (λ k. ⊎-elim (λ e. inl e) (λ l. inr (List·Memᴰ·tail l)) (f k))
@@ -128,25 +132,29 @@ insert-in key x (y ∷ ys) z m = go (lessBytes (key x) (key y)) m (insert-in key
 pub insert-length : (key : ℕ → List ℕ) (x : ℕ) (ys : List ℕ) → length (insertBy key x ys) ≡ suc (length ys)
 unfolding insertBy
 insert-length key x [] = refl
-insert-length key x (y ∷ ys) = go (lessBytes (key x) (key y)) (insert-length key x ys) (insert-length key y ys)
+insert-length key x (y ∷ ys) = go (lessBytes (key x) (key y)) (insert-length key x ys)
   where
-    go : (t : Bool) → length (insertBy key x ys) ≡ suc (length ys) → length (insertBy key y ys) ≡ suc (length ys)
-        → length (cond t (x ∷ insertBy key y ys) (y ∷ insertBy key x ys)) ≡ suc (suc (length ys))
-    go true f g = ap suc g
-    go false f g = ap suc f
+    go : (t : Bool) → length (insertBy key x ys) ≡ suc (length ys) → length (cond t (x ∷ y ∷ ys) (y ∷ insertBy key x ys)) ≡ suc (suc (length ys))
+    go true f = refl
+    go false f = ap suc f
+
+-- it stands behind those that it is not before, if it is before all others
+pub insert-at : (key : ℕ → List ℕ) (x : ℕ) (ys : List ℕ) (p : ℕ) → p ≤ length ys → ((i : ℕ) → i < p → lessBytes (key x) (key (getD ys i 0)) ≡ false)
+    → ((i : ℕ) → p ≤ i → i < length ys → lessBytes (key x) (key (getD ys i 0)) ≡ true) → insertBy key x ys ≡ take p ys ++ (x ∷ drop p ys)
+unfolding insertBy
+insert-at key x [] zero h f g = refl
+insert-at key x [] (suc p) h f g = absurd (omega arith)
+insert-at key x (y ∷ ys) zero h f g = rw (g 0 (omega arith) (omega arith))
+insert-at key x (y ∷ ys) (suc p) h f g =
+    let e = insert-at key x ys p (omega arith) (λ i l. f (suc i) (omega arith)) (λ i l m. g (suc i) (omega arith) (omega arith)) in
+    rw (f 0 (omega arith), e)
 
 -- ---- rising lists
 
--- each is before all later ones
-pub data Climbs (key : ℕ → List ℕ) : List ℕ → Type 0 where
-  ends : Climbs key []
-  begins : {x : ℕ} {xs : List ℕ} → ((y : ℕ) → List·Memᴰ y xs → lessBytes (key x) (key y) ≡ true) → Climbs key xs → Climbs key (x ∷ xs)
-
-pub climbs-first : {key : ℕ → List ℕ} {x : ℕ} {xs : List ℕ} → Climbs key (x ∷ xs) → (y : ℕ) → List·Memᴰ y xs → lessBytes (key x) (key y) ≡ true
-climbs-first (begins f c) = f
-
-pub climbs-rest : {key : ℕ → List ℕ} {x : ℕ} {xs : List ℕ} → Climbs key (x ∷ xs) → Climbs key xs
-climbs-rest (begins f c) = c
+-- each stands in the relation R to all later ones
+pub data Climbs (R : ℕ → ℕ → Type 0) : List ℕ → Type 0 where
+  ends : Climbs R []
+  begins : {x : ℕ} {xs : List ℕ} → ((y : ℕ) → List·Memᴰ y xs → R x y) → Climbs R xs → Climbs R (x ∷ xs)
 
 pub mem-at : (l : List ℕ) (k : ℕ) → k < length l → List·Memᴰ (getD l k 0) l
 mem-at [] k h = absurd (omega arith)
@@ -157,34 +165,25 @@ pub place-of : {x : ℕ} {l : List ℕ} → List·Memᴰ x l → (k : ℕ) × (k
 place-of (List·Memᴰ·head e) = (0, omega arith, sym e)
 place-of (List·Memᴰ·tail m) = let p = place-of m in let h = p .1 in (suc (p .0), omega arith, p .2)
 
-pub climbs-at : {key : ℕ → List ℕ} {xs : List ℕ} → Climbs key xs → (i j : ℕ) → i < j → j < length xs
-    → lessBytes (key (getD xs i 0)) (key (getD xs j 0)) ≡ true
+pub climbs-at : {R : ℕ → ℕ → Type 0} {xs : List ℕ} → Climbs R xs → (i j : ℕ) → i < j → j < length xs → R (getD xs i 0) (getD xs j 0)
 climbs-at ends i j h l = absurd (omega arith)
 climbs-at (begins {x} {xs} f c) i zero h l = absurd (omega arith)
 climbs-at (begins {x} {xs} f c) zero (suc j) h l = f (getD xs j 0) (mem-at xs j (omega arith))
 climbs-at (begins {x} {xs} f c) (suc i) (suc j) h l = climbs-at c i j (omega arith) (omega arith)
 
--- what is carried on is before the rest
-pub climbs-insert : (key : ℕ → List ℕ) (x : ℕ) {ys : List ℕ} → Climbs key ys → ((z : ℕ) → List·Memᴰ z ys → key x ≡ key z → ⊥)
-    → Climbs key (insertBy key x ys)
-unfolding insertBy
-climbs-insert key x ends f = begins (λ y m. absurd (List·Memᴰ·not-nil m)) ends
-climbs-insert key x (begins {x = y} {xs = ys} b c) f =
-    go
-    (lessBytes (key x) (key y))
-    refl
-    (climbs-insert key y c (λ z m e. less-other (key y) (key z) (b z m) e))
-    (climbs-insert key x c (λ z m. f z (List·Memᴰ·tail m)))
-  where
-    go : (t : Bool) → lessBytes (key x) (key y) ≡ t → Climbs key (insertBy key y ys) → Climbs key (insertBy key x ys)
-        → Climbs key (cond t (x ∷ insertBy key y ys) (y ∷ insertBy key x ys))
-    go true l d e =
-        begins
-        (λ z m. ⊎-elim (λ k. rw k l) (λ n. less-trans (key x) (key y) (key z) l (b z n)) (insert-in key y ys z m))
-        d
-    go false l d e =
-        let g : lessBytes (key y) (key x) ≡ true = less-total (key x) (key y) (f y (List·Memᴰ·head refl)) l in
-        begins (λ z m. ⊎-elim (λ k. rw k g) (λ n. b z n) (insert-in key x ys z m)) e
+-- it is enough that R follows the order of the keys
+module _ {R : ℕ → ℕ → Type 0} (key : ℕ → List ℕ) (x : ℕ) (front : (y : ℕ) → lessBytes (key x) (key y) ≡ true → R x y)
+    (past : (y z : ℕ) → lessBytes (key x) (key y) ≡ true → R y z → R x z) where
+  pub climbs-insert : {ys : List ℕ} → Climbs R ys → ((y : ℕ) → List·Memᴰ y ys → lessBytes (key x) (key y) ≡ false → R y x)
+      → Climbs R (insertBy key x ys)
+  unfolding insertBy
+  climbs-insert ends back = begins (λ y m. absurd (List·Memᴰ·not-nil m)) ends
+  climbs-insert (begins {x = y} {xs = ys} b c) back =
+      go (lessBytes (key x) (key y)) refl (climbs-insert c (λ z m. back z (List·Memᴰ·tail m)))
+    where
+      go : (t : Bool) → lessBytes (key x) (key y) ≡ t → Climbs R (insertBy key x ys) → Climbs R (cond t (x ∷ y ∷ ys) (y ∷ insertBy key x ys))
+      go true l d = begins (λ z m. ⊎-elim (λ k. rw k (front y l)) (λ n. past y z l (b z n)) (List·Memᴰ·cases-cons m)) (begins b c)
+      go false l d = begins (λ z m. ⊎-elim (λ k. rw k (back y (List·Memᴰ·head refl) l)) (λ n. b z n) (insert-in key x ys z m)) d
 
 -- ---- the rows in order
 
@@ -204,15 +203,37 @@ module _ {key : ℕ → List ℕ} {P : ℕ → Type 0} where
       ⊎-elim (λ l. insert-there key n xs i (ordered-of o i l q)) (λ e. rw e (insert-here key n xs)) (below i n h)
   ordered-of (passes {n} f o) i h q = ⊎-elim (λ l. ordered-of o i l q) (λ e. absurd (f (rw e at q))) (below i n h)
 
-  pub ordered-rise : {n : ℕ} {xs : List ℕ} → Ordered key P n xs → ((i j : ℕ) → i < n → j < n → key i ≡ key j → i ≡ j) → Climbs key xs
-  ordered-rise none f = ends
-  ordered-rise (takes {n} p o) f =
+  ordered-climbs : {R : ℕ → ℕ → Type 0} → ((x y : ℕ) → lessBytes (key x) (key y) ≡ true → R x y)
+      → ((x y z : ℕ) → lessBytes (key x) (key y) ≡ true → R y z → R x z) → {n : ℕ} {xs : List ℕ} → Ordered key P n xs
+      → ((i j : ℕ) → i < j → j < n → lessBytes (key j) (key i) ≡ false → R i j) → Climbs R xs
+  ordered-climbs front past none back = ends
+  ordered-climbs front past (takes {n} p o) back =
       climbs-insert
       key
       n
-      (ordered-rise o (λ i j h l. f i j (omega arith) (omega arith)))
-      (λ z m e. let h = ordered-in o m .0 in let d = f n z (omega arith) (omega arith) e in omega arith)
-  ordered-rise (passes g o) f = ordered-rise o (λ i j h l. f i j (omega arith) (omega arith))
+      (front n)
+      (past n)
+      (ordered-climbs front past o (λ i j h l. back i j h (omega arith)))
+      (λ y m e. back y n (ordered-in o m .0) (omega arith) e)
+  ordered-climbs front past (passes g o) back = ordered-climbs front past o (λ i j h l. back i j h (omega arith))
+
+  -- where no two have the same key, each is before all later ones; in any case none is before an earlier one
+  pub ordered-rise : {n : ℕ} {xs : List ℕ} → Ordered key P n xs → ((i j : ℕ) → i < n → j < n → key i ≡ key j → i ≡ j)
+      → Climbs (λ i j. lessBytes (key i) (key j) ≡ true) xs
+  ordered-rise o f =
+      ordered-climbs
+      (λ x y h. h)
+      (λ x y z. less-trans (key x) (key y) (key z))
+      o
+      (λ i j h l e. less-total (key j) (key i) (λ d. let g = f j i l (omega arith) d in omega arith) e)
+
+  pub ordered-level : {n : ℕ} {xs : List ℕ} → Ordered key P n xs → Climbs (λ i j. lessBytes (key j) (key i) ≡ false) xs
+  ordered-level o =
+      ordered-climbs
+      (λ x y h. less-asym (key x) (key y) h)
+      (λ x y z h e. less-asym (key x) (key z) (less-near (key x) (key y) (key z) h e))
+      o
+      (λ i j h l e. e)
 
   pub ordered-few : {n : ℕ} {xs : List ℕ} → Ordered key P n xs → length xs ≤ n
   ordered-few none = omega arith
@@ -251,6 +272,10 @@ module _ {key : ℕ → List ℕ} {P : ℕ → Type 0} {n r : ℕ} {order order�
       let l = q .1 in
       let s : q .0 < r = omega arith in
       (q .0, s, orders-at (q .0) s ∙ q .2)
+
+  pub orders-level : Level key r order′
+  orders-level =
+      record { is = λ i j h l. rw (orders-at i (omega arith), orders-at j l) (climbs-at (ordered-level (o .ordered)) i j h (omega arith)) }
 
   pub orders-rise : ((i j : ℕ) → i < n → j < n → key i ≡ key j → i ≡ j) → (i j : ℕ) → i < j → j < r
       → lessBytes (key (getD order′ i 0)) (key (getD order′ j 0)) ≡ true

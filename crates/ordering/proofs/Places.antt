@@ -1,24 +1,34 @@
--- From places to lists: what is left of two lists decides which is before the other, and what stands in the array in front of a place, then the
--- insertion into what is left, stays the same from turn to turn. Assumes nothing.
+-- From places to lists: what is left of two lists decides which is before the other; halving finds the place of a row; and what stands in the array in
+-- front of a place, then what is carried on and the rest, stays the same from turn to turn. Assumes nothing.
 use mathlib.Core.Path.{_≡_, refl, sym, ap, _∙_}
 use mathlib.Core.Bool.{Bool, true, false, or-false}
 use mathlib.Core.List.{List, [], _∷_, _++_, append-assoc}
+use mathlib.Core.Logic.{_⊎_, inl, inr, ⊎-elim}
 use Prim.Native.Nat.{ℕ, _+_, _≤_, _<_}
 use native.Mathlib.Numerals.{add-one}
 use native.Mathlib.Omega.{arith}
 use borrow.Author.Tests.{ltb-true, ltb-false, ne-eqb}
 use lib.Dec.{ltb}
 use lib.ListN.{length, getD, take, drop, set, length-take, length-set, drop-of-length-le}
-use lib.Seq.{take-suc, take-suc-set, take-set-lt, drop-set-lt, getD-take, set-split}
+use lib.Seq.{take-suc-set, take-set-lt, drop-set-lt, take-take, getD-take, set-split, length-take-le}
 use Rattle.fields.proofs.Parts.{headed}
 use Rattle.ordering.specs.Ordering.{lessBytes, insertBy}
-use Rattle.ordering.proofs.Laws.{less-rest}
+use Rattle.ordering.specs.Halving.{Level, Between}
+use Rattle.ordering.proofs.Laws.{never, compared, less-rest, less-near, insert-at}
 
 -- ---- comparing
 
 less-head : (a b : ℕ) (x y : List ℕ) → (a ≡ b → ⊥) → lessBytes (a ∷ x) (b ∷ y) ≡ ltb a b
 unfolding lessBytes
 less-head a b x y f = rw (ne-eqb a b f) (or-false (ltb a b))
+
+-- what x is not before, and y not before z, x is not before z
+less-far : (x y z : List ℕ) → lessBytes x y ≡ false → lessBytes y z ≡ false → lessBytes x z ≡ false
+less-far x y z h g = decided (lessBytes x z) refl
+  where
+    decided : (t : Bool) → lessBytes x z ≡ t → lessBytes x z ≡ false
+    decided true e = absurd (never (less-near x z y e g) h)
+    decided false e = e
 
 module _ (x y : List ℕ) (i : ℕ) where
   pub less-more : i < length x → i < length y → getD x i 0 ≡ getD y i 0 → lessBytes (drop i x) (drop i y) ≡ lessBytes (drop (i + 1) x) (drop (i + 1) y)
@@ -51,55 +61,91 @@ module _ (a b : ℕ) where
     pub before-action : c ≡ d → lessBytes xs ys ≡ lessBytes (a ∷ c ∷ xs) (b ∷ d ∷ ys)
     before-action f = sym (less-rest a b (c ∷ xs) (d ∷ ys) e ∙ less-rest c d xs ys f)
 
--- ---- a row put in its place
+-- ---- a row's place, by halving
 
--- what stands in front of place j, and what `carried` will make of the rest, is what was to be made of the first k
-pub record Carries (key : ℕ → List ℕ) (x k : ℕ) (first : List ℕ) (j carried : ℕ) (order : List ℕ) : Type 0 where
+or-more : (i j : ℕ) → i ≤ j → (i ≡ j) ⊎ (i < j)
+or-more i j h = ⊎-elim (λ l. inr l) (λ g. ⊎-elim (λ e. inl e) (λ l. absurd (omega arith)) g) (compared i j)
+
+module _ {key : ℕ → List ℕ} {x k : ℕ} {order : List ℕ} where
+  pub between-start : Between key x k order 0 k
+  between-start = record { stay = λ i h. absurd (omega arith); follow = λ i h l. absurd (omega arith) }
+
+  module _ {low high m : ℕ} (v : Level key k order) (b : Between key x k order low high) (h : m < k) {t : Bool}
+      (e : t ≡ lessBytes (key x) (key (getD order m 0))) where
+    -- x is before the row in the middle, so also before those behind it
+    pub between-front : t ≡ true → Between key x k order low m
+    between-front f =
+        let l : lessBytes (key x) (key (getD order m 0)) ≡ true = sym e ∙ f in
+        record {
+          stay = b .stay;
+          follow =
+              λ i g u.
+              ⊎-elim
+              (λ d. rw d at l)
+              (λ d. less-near (key x) (key (getD order m 0)) (key (getD order i 0)) l (v .is m i d u))
+              (or-more m i g);
+        }
+
+    -- it is not, so neither before those in front of it
+    pub between-back : t ≡ false → Between key x k order (m + 1) high
+    between-back f =
+        let l : lessBytes (key x) (key (getD order m 0)) ≡ false = sym e ∙ f in
+        record {
+          stay =
+              λ i g.
+              ⊎-elim
+              (λ d. rw d l)
+              (λ d. less-far (key x) (key (getD order m 0)) (key (getD order i 0)) l (v .is i m d h))
+              (or-more i m (omega arith));
+          follow = b .follow;
+        }
+
+  pub between-as : {low low′ high high′ : ℕ} → low′ ≡ low → high′ ≡ high → Between key x k order low high → Between key x k order low′ high′
+  between-as e f b = rw (e, f) b
+
+  -- x put at its place
+  pub between-put : {p : ℕ} {order′ : List ℕ} → Between key x k order p p → p ≤ k → k < length order
+      → order′ ≡ take p order ++ ((x ∷ drop p (take k order)) ++ drop (k + 1) order) → order′ ≡ insertBy key x (take k order) ++ drop (k + 1) order
+  between-put {p} b h g e =
+      let n : length (take k order) ≡ k = length-take-le k order (omega arith) in
+      let i : insertBy key x (take k order) ≡ take p (take k order) ++ (x ∷ drop p (take k order)) =
+      insert-at
+      key
+      x
+      (take k order)
+      p
+      (omega arith)
+      (λ i l. rw (getD-take k order i 0 (omega arith)) (b .stay i l))
+      (λ i l u. rw (getD-take k order i 0 (omega arith)) (b .follow i l (omega arith))) in
+      e ∙ rw (i, take-take p k order h) (sym (append-assoc (take p order) (x ∷ drop p (take k order)) (drop (k + 1) order)))
+
+-- ---- what stands from the place on is carried on by one
+
+-- what stands in front of place j, then `carried` and the rest, is what is to be laid
+pub record Carries (laid : List ℕ) (k : ℕ) (first : List ℕ) (j carried : ℕ) (order : List ℕ) : Type 0 where
   pub long : length order ≡ length first
-  pub is : insertBy key x (take k first) ++ drop (k + 1) first ≡ take j order ++ (insertBy key carried (drop j (take k order)) ++ drop (k + 1) order)
+  pub is : laid ≡ take j order ++ ((carried ∷ drop j (take k order)) ++ drop (k + 1) order)
 
-pub carries-start : (key : ℕ → List ℕ) (x k : ℕ) (first : List ℕ) → Carries key x k first 0 x first
-carries-start key x k first = record { long = refl; is = refl }
+pub carries-start : (k : ℕ) (first : List ℕ) (p x : ℕ) → Carries (take p first ++ ((x ∷ drop p (take k first)) ++ drop (k + 1) first)) k first p x first
+carries-start k first p x = record { long = refl; is = refl }
 
-module _ {key : ℕ → List ℕ} {x k j carried : ℕ} {first order : List ℕ} (c : Carries key x k first j carried order) (h : j < k) (g : k < length first) where
-  head : drop j (take k order) ≡ getD order j 0 ∷ drop (j + 1) (take k order)
-  head = headed (take k order) j (simp length-take (omega arith)) ∙ rw (getD-take k order j 0 h)
-
-  pub carries-swap : {t : Bool} → t ≡ lessBytes (key carried) (key (getD order j 0)) → t ≡ true
-      → Carries key x k first (j + 1) (getD order j 0) (set order j carried)
-  unfolding insertBy
-  carries-swap e f =
-      let a : take (j + 1) (set order j carried) ≡ take j order ++ (carried ∷ []) = rw add-one (take-suc-set order j carried (omega arith)) in
+module _ {laid : List ℕ} {k j carried : ℕ} {first order : List ℕ} (c : Carries laid k first j carried order) where
+  pub carries-on : j < k → k < length first → Carries laid k first (j + 1) (getD order j 0) (set order j carried)
+  carries-on h g =
+      let a : take (j + 1) (set order j carried) ≡ take j order ++ (carried ∷ []) = rw add-one (take-suc-set order j carried (omega (arith, c .long))) in
       let b : drop (j + 1) (take k (set order j carried)) ≡ drop (j + 1) (take k order) =
       ap (drop (j + 1)) (take-set-lt k order j carried h) ∙ drop-set-lt (j + 1) (take k order) j carried (omega arith) in
       let d : drop (k + 1) (set order j carried) ≡ drop (k + 1) order = drop-set-lt (k + 1) order j carried (omega arith) in
-      let l : lessBytes (key carried) (key (getD order j 0)) ≡ true = sym e ∙ f in
+      let e : drop j (take k order) ≡ getD order j 0 ∷ drop (j + 1) (take k order) =
+      headed (take k order) j (simp length-take (omega (arith, c .long))) ∙ rw (getD-take k order j 0 h) in
       record {
         long = simp length-set (c .long);
-        is =
-            c .is
-            ∙ rw (head, l, a, b, d) (sym (append-assoc (take j order) (carried ∷ []) (insertBy key (getD order j 0) (drop (j + 1) (take k order)) ++ drop (k + 1) order)));
+        is = c .is ∙ rw (e, a, b, d) (sym (append-assoc (take j order) (carried ∷ []) ((getD order j 0 ∷ drop (j + 1) (take k order)) ++ drop (k + 1) order)));
       }
 
-  pub carries-on : {t : Bool} → t ≡ lessBytes (key carried) (key (getD order j 0)) → t ≡ false → Carries key x k first (j + 1) carried order
-  unfolding insertBy
-  carries-on e f =
-      let a : take (j + 1) order ≡ take j order ++ (getD order j 0 ∷ []) = rw add-one (take-suc order j 0 (omega arith)) in
-      let l : lessBytes (key carried) (key (getD order j 0)) ≡ false = sym e ∙ f in
-      record {
-        long = c .long;
-        is = c .is ∙ rw (head, l, a) (sym (append-assoc (take j order) (getD order j 0 ∷ []) (insertBy key carried (drop (j + 1) (take k order)) ++ drop (k + 1) order)));
-      }
-
-pub carries-as : {key : ℕ → List ℕ} {x k j carried carried′ : ℕ} {first order order′ : List ℕ} → order′ ≡ order → carried′ ≡ carried
-    → Carries key x k first j carried order → Carries key x k first j carried′ order′
-carries-as e f c = rw (e, f) c
-
-pub carries-end : {key : ℕ → List ℕ} {x k j carried : ℕ} {first order : List ℕ} → Carries key x k first j carried order → k ≤ j → j ≤ k → k < length first
-    → set order k carried ≡ insertBy key x (take k first) ++ drop (k + 1) first
-unfolding insertBy
-carries-end {key} {x} {k} {j} {carried} {first} {order} c h g l =
-    let e : j ≡ k = omega arith in
-    let b : length (take k order) ≤ j = simp length-take (omega arith) in
-    let z : drop j (take k order) ≡ [] = drop-of-length-le (take k order) b in
-    sym (c .is ∙ rw (z, e, add-one) (sym (set-split order k carried (omega (arith, c .long)))))
+  pub carries-end : k ≤ j → j ≤ k → k < length first → set order k carried ≡ laid
+  carries-end h g l =
+      let e : j ≡ k = omega arith in
+      let b : length (take k order) ≤ j = simp length-take (omega arith) in
+      let z : drop j (take k order) ≡ [] = drop-of-length-le (take k order) b in
+      sym (c .is ∙ rw (z, e, add-one) (sym (set-split order k carried (omega (arith, c .long)))))

@@ -11,7 +11,8 @@ use Rattle.products.specs.declared.Found.{Found}
 use Rattle.products.specs.declared.Found.the-variants.{At, Nothing}
 use Rattle.products.proofs.Laws.{has-le}
 use Rattle.ordering.specs.Ordering.{MadeRow, insertBy, none, takes, passes, Orders}
-use Rattle.ordering.proofs.Laws.{insert-length, orders-few}
+use Rattle.ordering.specs.Halving.{Level}
+use Rattle.ordering.proofs.Laws.{insert-length, orders-few, orders-level}
 
 -- ---- whether some product makes the row's move
 
@@ -47,7 +48,7 @@ module _ {key : ℕ → List ℕ} {P : ℕ → Type 0} where
     long : length first ≡ 256 → i < 256 → length order ≡ 256
     long h l = rw (o .laid) (simp (length-append, length-drop) (omega (arith, orders-few o, o .many)))
 
-    pub orders-take : {order′ : List ℕ} → (length order ≡ 256 → order′ ≡ insertBy key i (take kept order) ++ drop (kept + 1) order) → P i
+    pub orders-take : {order′ : List ℕ} → (length order ≡ 256 → Level key kept order → order′ ≡ insertBy key i (take kept order) ++ drop (kept + 1) order) → P i
         → length first ≡ 256 → i < 256 → Orders key P (i + 1) first order′ (kept + 1)
     orders-take e p h l =
         let a : take kept order ≡ o .rows = rw (o .laid) (take-at (o .rows) (drop kept first) kept (sym (o .many))) in
@@ -57,7 +58,7 @@ module _ {key : ℕ → List ℕ} {P : ℕ → Type 0} where
           rows = insertBy key i (o .rows);
           ordered = rw add-one (takes p (o .ordered));
           many = omega (arith, o .many, insert-length key i (o .rows));
-          laid = e (long h l) ∙ rw (a, b);
+          laid = e (long h l) (orders-level o) ∙ rw (a, b);
         }
 
     pub orders-upto : {n : ℕ} → i ≡ n → Orders key P n first order kept

@@ -31,10 +31,10 @@ pub record MadeRow (t guards sets : List (List ℕ)) (i : ℕ) : Type 0 where
   pub reached : has (getD sets (getD (getD t i []) 1 0 % 64) []) product ≡ 1
   pub held : has (getD guards i []) product ≡ 1
 
--- x put in its place in a rising list: what comes behind it is carried on
+-- x put in its place in a rising list: in front of the first that it is before
 unfoldable pub insertBy : (ℕ → List ℕ) → ℕ → List ℕ → List ℕ
 insertBy key x [] = x ∷ []
-insertBy key x (y ∷ ys) = cond (lessBytes (key x) (key y)) (x ∷ insertBy key y ys) (y ∷ insertBy key x ys)
+insertBy key x (y ∷ ys) = cond (lessBytes (key x) (key y)) (x ∷ y ∷ ys) (y ∷ insertBy key x ys)
 
 -- the numbers of the rows below n with the property P, in order
 pub data Ordered (key : ℕ → List ℕ) (P : ℕ → Type 0) : ℕ → List ℕ → Type 0 where

@@ -1,10 +1,11 @@
 // The moves that are not dead, in order: by from, then to, then the action's bytes, a shorter one before
 // its extensions. Row numbers are put in one after another; rows themselves stay where they are.
 ghost use mathlib.Core.Path.{_≡_};
-ghost use mathlib.Core.List.{List, _++_};
+ghost use mathlib.Core.List.{List, _∷_, _++_};
 ghost use Prim.Native.Nat.{ℕ, _+_, _≤_, _<_, min};
 ghost use lib.ListN.{length, take, drop};
 ghost use Rattle.ordering.specs.Ordering.{lessBytes, rowKey, keyAt, MadeRow, insertBy, Orders};
+ghost use Rattle.ordering.specs.Halving.{Level, Between};
 use products::Found;
 
 // Lays the numbers of those of the first `count` moves that some product of its source's set makes into
@@ -20,7 +21,7 @@ pub fn order_moves(
     ensures { λ r. ⌜ Orders (keyAt (now (text .entry)) (now (moves .entry))) (MadeRow (now (moves .entry)) (now (guards .entry)) (now (sets .entry))) (min count 256) (now (order .entry)) (now (order .exit)) r ⌝ }
 {
     all_places(*order);
-    let n = at_most(count, 256);
+    let n = counts::at_most(count, 256);
     let mut kept = 0;
     let mut i = 0;
     while i < n {
@@ -35,16 +36,6 @@ pub fn order_moves(
 fn all_places(order: [usize; 256])
     ensures { λ _. ⌜ length order ≡ 256 ⌝ }
 {}
-
-// The smaller of the two.
-fn at_most(count: usize, most: usize) -> usize
-    ensures { λ r. ⌜ r ≡ min count most ⌝ }
-{
-    if most < count {
-        return most;
-    }
-    count
-}
 
 // Puts row i among the first `kept` of `order`, if some product makes its move; the answer is how many
 // there are then.
@@ -62,7 +53,7 @@ fn order_row(
 {
     let row = moves[i];
     let from = row[1] % 64;
-    let made = products::least(products::both(sets[from], guards[i]));
+    let made = members::least(products::both(sets[from], guards[i]));
     let Found::At(_) = made else {
         return kept;
     };
@@ -70,19 +61,52 @@ fn order_row(
     kept + 1
 }
 
-// Puts row x in its place among the first k of `order`: what comes behind it is carried on.
+// Puts row x in its place among the first k of `order`, which are in order.
 fn insert(text: &[u8], moves: &[[usize; 6]; 256], order: &mut [usize; 256], k: usize, x: usize)
     requires { ⌜ k < 256 ⌝ }
-    ensures { λ _. ⌜ (length (now (order .entry)) ≡ 256 → now (order .exit) ≡ insertBy (keyAt (now (text .entry)) (now (moves .entry))) x (take k (now (order .entry))) ++ drop (k + 1) (now (order .entry))) ⌝ }
+    ensures { λ _. ⌜ (length (now (order .entry)) ≡ 256 → Level (keyAt (now (text .entry)) (now (moves .entry))) k (now (order .entry)) → now (order .exit) ≡ insertBy (keyAt (now (text .entry)) (now (moves .entry))) x (take k (now (order .entry))) ++ drop (k + 1) (now (order .entry))) ⌝ }
+{
+    let place = place_of(text, moves, order, k, x);
+    shift(order, place, k, x);
+}
+
+// How many of the first k of `order`, which are in order, stay in front of row x: each turn halves what is
+// left between those that stay and those that x comes before.
+fn place_of(
+    text: &[u8],
+    moves: &[[usize; 6]; 256],
+    order: &[usize; 256],
+    k: usize,
+    x: usize,
+) -> usize
+    requires { ⌜ k < 256 ⌝ }
+    ensures { λ r. ⌜ (r ≤ k) × (Level (keyAt (now (text .entry)) (now (moves .entry))) k (now (order .entry)) → Between (keyAt (now (text .entry)) (now (moves .entry))) x k (now (order .entry)) r r) ⌝ }
+{
+    let mut low = 0;
+    let mut high = k;
+    while low < high {
+        let middle = low + (high - low) / 2;
+        let y = order[middle];
+        if before(text, moves[x % 256], moves[y % 256]) {
+            high = middle;
+        } else {
+            low = middle + 1;
+        }
+    }
+    low
+}
+
+// Puts x at `place` among the first k of `order`: what stands from there on is carried on by one.
+fn shift(order: &mut [usize; 256], place: usize, k: usize, x: usize)
+    requires { ⌜ (place ≤ k) × (k < 256) ⌝ }
+    ensures { λ _. ⌜ (length (now (order .entry)) ≡ 256 → now (order .exit) ≡ take place (now (order .entry)) ++ ((x ∷ drop place (take k (now (order .entry)))) ++ drop (k + 1) (now (order .entry)))) ⌝ }
 {
     let mut carried = x;
-    let mut j = 0;
+    let mut j = place;
     while j < k {
         let y = order[j];
-        if before(text, moves[carried % 256], moves[y % 256]) {
-            order[j] = carried;
-            carried = y;
-        }
+        order[j] = carried;
+        carried = y;
         j += 1;
     }
     order[k] = carried;

@@ -1,5 +1,4 @@
 pub mod Bits
 pub mod Laws
 pub mod Filled
-pub mod Passed
 pub mod Determined

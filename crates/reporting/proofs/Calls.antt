@@ -1,12 +1,13 @@
--- The report from its four parts, and what the outermost call leaves: refused by 11 with the room kept, or done. The dry run and the run lay
+-- The report from its four parts, and what `lay` leaves: refused by 11 with the room kept, or done. A run in the buffer and a run in the room lay
 -- the same text, because only one text is a sheet's report. Assumes nothing.
 use mathlib.Core.Path.{_≡_, refl, sym, ap, _∙_}
-use mathlib.Core.List.{List, [], _++_}
+use mathlib.Core.List.{List, _++_}
 use mathlib.Core.Logic.{_⊎_, inr}
-use Prim.Native.Nat.{ℕ, _%_, _≤_, _<_, min}
-use lib.ListN.{length, drop}
+use Prim.Native.Nat.{ℕ, _-_, _%_, _≤_, _<_, min}
+use native.Mathlib.Omega.{arith}
+use lib.ListN.{length, take, drop}
 use Rattle.text.specs.Text.{limit, Wrote}
-use Rattle.text.proofs.Laws.{wrote-then, dry-refused, dry-done}
+use Rattle.text.proofs.Laws.{wrote-then, wrote-text, wrote-whole, wrote-end, dry-fits, dry-too-long}
 use Rattle.sheet.specs.declared.Counts.{Counts}
 use Rattle.sheet.specs.Sheet.{Sheet}
 use Rattle.sheet.specs.Reading.{kept, refused, readSheet}
@@ -32,32 +33,46 @@ whole-report {depth = depth} (x, xs, u) (y, ys, v) (z, zs, w) deep t = (
   wrote-then u (wrote-then v (wrote-then w t)),
 )
 
+-- the tables that were read, and the sets that were spread, are those of the sheet
 module _ {s v : List ℕ} {names m g t h sets : List (List ℕ)} {c : Counts} {depth : ℕ}
     (got : (r : Sheet) × (readSheet s ≡ kept r) × StandsFor s (tables names v m g t h) c r)
     (spread : Spread (c .start % 64) v (stepAt m g) (min (c .moves) 256) sets depth) where
-  -- a run of `put_report` in the room l
-  abbrev Lays : List ℕ → List ℕ → ℕ → Type 0
-  Lays l l′ n = (r : Sheet) → Ready c m g t h sets r → Depth r depth → (vs : List ℕ) × IsReport _≤_ r vs × Wrote l 0 vs l′ n
-
-  -- it lays the report of the sheet that was read
-  lays : {l l′ : List ℕ} {n : ℕ} → Lays l l′ n → (vs : List ℕ) × IsReport _≤_ (got .0) vs × Wrote l 0 vs l′ n
-  lays run =
+  pub is-ready : Ready c m g t h sets (got .0)
+  is-ready =
       let ok = accepted s (got .1) in
-      run (got .0)
-      (record { text = s; names = names; valid = v; stands = got .2; accepted = ok; reaches = spread-reaches (got .2) ok spread })
-      (spread-depth (got .2) ok spread)
+      record { text = s; names = names; valid = v; stands = got .2; accepted = ok; reaches = spread-reaches (got .2) ok spread }
 
-  pub too-long : {d : List ℕ} {n : ℕ} (l : List ℕ) → Lays [] d n → length (d ++ l) < n → length l < limit
-      → (d ++ l ≡ l) × ((readSheet s ≡ refused 11 0) ⊎ TooLong s l 11 0)
-  too-long l run longer b =
-      let (vs, is, w) = lays run in
-      let z = dry-refused l w longer b in
-      (z .1, inr (record { number = refl; line = refl; sheet = got .0; accepted = got .1; text = vs; report = is; longer = z .0 }))
+  pub is-depth : Depth (got .0) depth
+  is-depth = spread-depth (got .2) (accepted s (got .1)) spread
 
-  pub done : {d l′ : List ℕ} {n k : ℕ} (l : List ℕ) → Lays [] d n → Lays (d ++ l) l′ k → n ≤ length (d ++ l) → length l < limit → Reported s l l′ k
-  done l dry run fits b =
-      let (us, is-dry, u) = lays dry in
-      let (vs, is, w) = lays run in
-      let e = report-determined us vs is-dry is in
-      let z = dry-done l (rw e at u) w fits b in
-      record { sheet = got .0; accepted = got .1; text = vs; report = is; fits = z .0; is-length = z .1; laid = z .2 ∙ ap (λ (i : ℕ). vs ++ drop i l) (sym (z .1)) }
+-- what a run of `put_report` promises of the room l
+abbrev Lays : (Sheet → Type 0) → (Sheet → Type 0) → List ℕ → List ℕ → ℕ → Type 0
+Lays P Q l l′ n = (r : Sheet) → P r → Q r → (vs : List ℕ) × IsReport _≤_ r vs × Wrote l 0 vs l′ n
+
+-- after a run in the buffer `own`: refused where the room l is too short for the text, or done by copying it, or by a second run
+module _ {P Q : Sheet → Type 0} {own own′ l : List ℕ} {n : ℕ} (first : Lays P Q own own′ n) (b : length l < limit) (s : List ℕ) (r : Sheet) (read : readSheet s ≡ kept r)
+    (p : P r) (q : Q r) where
+  pub too-long : length l < n → (l ≡ l) × ((readSheet s ≡ refused 11 0) ⊎ TooLong s l 11 0)
+  too-long longer =
+      let (vs, is, w) = first r p q in
+      (refl, inr (record { number = refl; line = refl; sheet = r; accepted = read; text = vs; report = is; longer = dry-too-long w longer b }))
+
+  -- the text vs is laid, and it fits
+  reported : {l′ vs : List ℕ} {k : ℕ} → n ≤ length l → IsReport _≤_ r vs → Wrote own 0 vs own′ n → Wrote l 0 vs l′ k → Reported s l l′ k
+  reported {vs = vs} fits is u w =
+      let f = dry-fits u fits b in
+      let e = wrote-end w f in
+      record { sheet = r; accepted = read; text = vs; report = is; fits = f; is-length = e; laid = wrote-whole w f ∙ ap (λ (i : ℕ). vs ++ drop i l) (sym e) }
+
+  pub copied : {l′ : List ℕ} {k : ℕ} → n ≤ length l → length own ≡ 12288 → n ≤ 12288 → Wrote l 0 (take (n - 0) own′) l′ k → Reported s l l′ k
+  copied fits long whole w =
+      let (vs, is, u) = first r p q in
+      let f : length vs ≤ length own = dry-fits u (omega arith) (omega arith) in
+      let e : n - 0 ≡ length vs = omega (arith, wrote-end u f) in
+      reported fits is u (rw (e, wrote-text u (omega arith)) at w)
+
+  pub done : {l′ : List ℕ} {k : ℕ} → n ≤ length l → Lays P Q l l′ k → Reported s l l′ k
+  done fits second =
+      let (us, is-first, u) = first r p q in
+      let (vs, is, w) = second r p q in
+      reported fits is-first u (rw (report-determined vs us is is-first) at w)

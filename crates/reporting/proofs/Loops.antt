@@ -8,25 +8,26 @@ use Prim.Native.Nat.{ℕ, suc, _+_, _-_, _%_, _≤_, _<_, min}
 use native.Mathlib.Nat.{eq-or-lt-of-le}
 use native.Mathlib.Numerals.{add-one}
 use native.Mathlib.Omega.{arith}
+use borrow.Author.Tests.{eq-eqb, ne-eqb}
 use lib.Dec.{eqb}
-use lib.ListN.{length, getD, drop, drop-of-length-le}
+use lib.ListN.{length, getD, drop, drop-of-length-le, replicate}
 use Rattle.text.specs.Text.{limit, Wrote}
 use Rattle.text.proofs.Laws.{wrote-none, wrote-then, wrote-long}
-use Rattle.products.specs.Sets.{has, countTo}
-use Rattle.guards.specs.Guard.{Means}
+use Rattle.products.specs.Sets.{has, oneIf, countTo}
+use Rattle.products.proofs.Laws.{empty-has}
 use Rattle.sheet.specs.declared.Counts.{Counts}
 use Rattle.sheet.specs.Sheet.{Move, Stop, Sheet}
 use Rattle.sheet.specs.Tables.{Rows, none, next}
-use Rattle.sheet.specs.Accepted.{GoodMove, GoodMoves, GoodStop, GoodStops}
 use Rattle.sheet.proofs.Rows.{rows-length}
 use Rattle.verdicts.specs.declared.Verdict.{Verdict}
 use Rattle.verdicts.specs.declared.StateVerdict.{StateVerdict}
 use Rattle.verdicts.specs.declared.StopVerdict.{StopVerdict}
-use Rattle.verdicts.specs.Verdicts.{JudgedAs, StopAs}
+use Rattle.verdicts.specs.Verdicts.{JudgedAs, StopAs, Named}
 use Rattle.verdicts.specs.Judging.{MoveSets, StateSets, StopSets, guardsAt, rowAt}
-use Rattle.verdicts.proofs.Meaning.{named-means, count-judged, move-judged, state-judged, stop-judged}
+use Rattle.verdicts.proofs.Shown.{Tells, guards-none}
+use Rattle.verdicts.proofs.Meaning.{good-move, good-stop, named-means, count-judged, move-judged, state-judged, stop-judged}
 use Rattle.reporting.specs.Report.{moveRow, stateRow, stopRow, MoveRows, StateRows, StopRows}
-use Rattle.reporting.specs.Promise.{Ready}
+use Rattle.reporting.specs.Promise.{Ready, Outward, Told}
 
 -- ---- one row more
 
@@ -83,10 +84,6 @@ pub record MovesReady (n : ℕ) (m g sets : List (List ℕ)) (r : Sheet) : Type 
 -- the rows of the first i moves, of n
 unfoldable pub MovesUpto : ℕ → ℕ → Sheet → List ℕ → Type 0
 MovesUpto n i r vs = MoveRows _≤_ r (drop (n - i) (r .moves)) vs
-
-good-move : {n : ℕ} {ms : List Move} {m : Move} → GoodMoves n ms → List·Memᴰ m ms → GoodMove n m
-good-move {n} g (List·Memᴰ·head e) = rw e (g .0)
-good-move g (List·Memᴰ·tail i) = good-move (g .2) i
 
 -- the move x is the next of the list, and its line and verdict make its row
 add-move : {r : Sheet} (ms : List Move) {x : Move} {n k line : ℕ} (i : ℕ) (v : Verdict) (vs : List ℕ) → n ≡ k → line ≡ x .line
@@ -151,59 +148,90 @@ module _ {n : ℕ} {m g sets : List (List ℕ)} {room : List ℕ} {at : ℕ} whe
 unfoldable pub StatesUpto : ℕ → Sheet → List ℕ → Type 0
 StatesUpto q r vs = StateRows _≤_ r q vs
 
-module _ {c : Counts} {m g t h sets : List (List ℕ)} {room : List ℕ} {at : ℕ} where
-  pub states-none : length room ≤ limit → Laid (Ready c m g t h sets) StatesUpto room at 0 room at
+-- the tables with some guards of the moves m are ready, and `out` is what the guards give
+pub record StatesReady (c : Counts) (m t h sets out : List (List ℕ)) (r : Sheet) : Type 0 where
+  pub guards : List (List ℕ)
+  pub ready : Ready c m guards t h sets r
+  pub outward : Outward c m guards out
+
+module _ {c : Counts} {m t h sets out : List (List ℕ)} {room : List ℕ} {at : ℕ} where
+  pub states-none : length room ≤ limit → Laid (StatesReady c m t h sets out) StatesUpto room at 0 room at
   unfolding StatesUpto
   states-none l = laid-none l (λ r w. StateRows.none)
 
-  pub states-more : {q : ℕ} {room′ room″ : List ℕ} {next next″ : ℕ} → Laid (Ready c m g t h sets) StatesUpto room at q room′ next → length room″ ≡ length room′
-      → ((r : Sheet) → Ready c m g t h sets r → (vs : List ℕ) × ((before : List ℕ) → StateRows _≤_ r q before → StateRows _≤_ r (suc q) (before ++ vs)) × Wrote room′ next vs room″ next″)
-      → Laid (Ready c m g t h sets) StatesUpto room at (q + 1) room″ next″
+  pub states-more : {q : ℕ} {room′ room″ : List ℕ} {next next″ : ℕ} → Laid (StatesReady c m t h sets out) StatesUpto room at q room′ next → length room″ ≡ length room′
+      → {leaves ends stopped : List ℕ} → ((q : ℕ) → q < 64 → getD leaves q 0 ≡ oneIf (rowAt m 1 q (min (c .moves) 256)))
+      → ((q : ℕ) → q < 64 → getD ends q 0 ≡ oneIf (rowAt m 4 q (min (c .moves) 256))) → ((q : ℕ) → q < 64 → getD stopped q 0 ≡ oneIf (rowAt t 1 q (min (c .stops) 64)))
+      → ((m g : List (List ℕ)) (r : Sheet) → Ready c m g t h sets r → Told c m g t out leaves ends stopped
+      → (vs : List ℕ) × ((before : List ℕ) → StateRows _≤_ r q before → StateRows _≤_ r (suc q) (before ++ vs)) × Wrote room′ next vs room″ next″)
+      → Laid (StatesReady c m t h sets out) StatesUpto room at (q + 1) room″ next″
   unfolding StatesUpto
-  states-more {q} l e f = laid-more l e (λ r w. let x = f r w in (x .0, λ vs s. rw add-one (x .1 vs s), x .2))
+  states-more {q} l e left ended declared f =
+      laid-more l e
+      (λ r w. let x = f m (w .guards) r (w .ready) (record { outward = w .outward; left = left; ended = ended; declared = declared }) in
+      (x .0, λ vs s. rw add-one (x .1 vs s), x .2))
 
-  pub states-all : {q : ℕ} {room′ : List ℕ} {next : ℕ} → Laid (Ready c m g t h sets) StatesUpto room at q room′ next → q ≡ 64
-      → (r : Sheet) → Ready c m g t h sets r → (vs : List ℕ) × StateRows _≤_ r 64 vs × Wrote room at vs room′ next
+  pub states-all : {q : ℕ} {room′ : List ℕ} {next : ℕ} → Laid (StatesReady c m t h sets out) StatesUpto room at q room′ next → q ≡ 64
+      → (g : List (List ℕ)) (r : Sheet) → Ready c m g t h sets r → Outward c m g out → (vs : List ℕ) × StateRows _≤_ r 64 vs × Wrote room at vs room′ next
   unfolding StatesUpto
-  states-all l e r w = let x = l .text r w in (x .0, rw e at (x .1), x .2)
+  states-all l e g r w o = let x = l .text r (record { guards = g; ready = w; outward = o }) in (x .0, rw e at (x .1), x .2)
+
+-- a mark is 1 where its test is true
+mark-told : {n : ℕ} (b : Bool) → n ≡ oneIf b → eqb n 1 ≡ b
+mark-told {n} true e = eq-eqb n 1 e
+mark-told {n} false e = ne-eqb n 1 (λ (f : n ≡ 1). omega arith)
+
+-- where no stop line is for the state, none declares anything
+pub none-declared : (t h : List (List ℕ)) (q n : ℕ) {mark : ℕ} → mark ≡ 0 → mark ≡ oneIf (rowAt t 1 q n) → (p : ℕ) → p < 1024 → has (replicate 16 0) p ≡ guardsAt t h q p n
+none-declared t h q n z e p lp = empty-has p ∙ sym (guards-none t h q p n (unmarked (rowAt t 1 q n) (sym e ∙ z)))
+  where
+    unmarked : (b : Bool) → oneIf b ≡ 0 → b ≡ false
+    unmarked true e = absurd (omega arith)
+    unmarked false e = refl
 
 -- one state: no row where no line names it, else its row
-module _ {c : Counts} {m g t h sets : List (List ℕ)} {room : List ℕ} {at q : ℕ} {b : Bool}
-    (n : b ≡ (eqb q (c .start) || (rowAt m 1 q (min (c .moves) 256) || (rowAt m 4 q (min (c .moves) 256) || rowAt t 1 q (min (c .stops) 64))))) where
-  pub state-passed : b ≡ false → length room ≤ limit → (r : Sheet) → Ready c m g t h sets r
-      → (vs : List ℕ) × ((before : List ℕ) → StateRows _≤_ r q before → StateRows _≤_ r (suc q) (before ++ vs)) × Wrote room at vs room at
-  state-passed f l r w =
-      ([], λ before s. rw (append-nil before) (StateRows.other (named-means (w .stands) q .not-so (sym n ∙ f)) s), wrote-none l)
+module _ {c : Counts} {t h sets out : List (List ℕ)} {leaves ends stopped : List ℕ} {q : ℕ} {b : Bool}
+    (n : b ≡ (eqb q (c .start) || (eqb (getD leaves q 0) 1 || (eqb (getD ends q 0) 1 || eqb (getD stopped q 0) 1)))) (lq : q < 64) where
+  named-told : {m g : List (List ℕ)} {r : Sheet} → Ready c m g t h sets r → Told c m g t out leaves ends stopped → Tells b (Named r q)
+  named-told {m} w k =
+      rw (
+        n,
+        mark-told (rowAt m 1 q (min (c .moves) 256)) (k .left q lq),
+        mark-told (rowAt m 4 q (min (c .moves) 256)) (k .ended q lq),
+        mark-told (rowAt t 1 q (min (c .stops) 64)) (k .declared q lq),
+      )
+      (named-means (w .stands) q)
 
-  pub state-laid : (v : StateVerdict) {k : ℕ} {room′ : List ℕ} {next : ℕ} → Wrote room at (stateRow q v k) room′ next → k ≡ countTo (getD sets q []) 1024
-      → b ≡ true → q < 64 → {leaves : Bool} → leaves ≡ rowAt m 1 q (min (c .moves) 256)
-      → (out : List ℕ) → ((p : ℕ) → p < 1024 → has out p ≡ guardsAt m g q p (min (c .moves) 256))
-      → (declared : List ℕ) → ((p : ℕ) → p < 1024 → has declared p ≡ guardsAt t h q p (min (c .stops) 64))
-      → StateSets (getD sets q []) leaves out declared v → (r : Sheet) → Ready c m g t h sets r
+  pub state-passed : b ≡ false → {room : List ℕ} {at : ℕ} → length room ≤ limit → (m g : List (List ℕ)) (r : Sheet) → Ready c m g t h sets r → Told c m g t out leaves ends stopped
+      → (vs : List ℕ) × ((before : List ℕ) → StateRows _≤_ r q before → StateRows _≤_ r (suc q) (before ++ vs)) × Wrote room at vs room at
+  state-passed f l m g r w k = ([], λ before s. rw (append-nil before) (StateRows.other (named-told w k .not-so f) s), wrote-none l)
+
+  pub state-laid : (v : StateVerdict) {k at next : ℕ} {room room′ : List ℕ} → Wrote room at (stateRow q v k) room′ next → k ≡ countTo (getD sets q []) 1024
+      → b ≡ true → (declared : List ℕ)
+      → (getD stopped q 0 ≡ oneIf (rowAt t 1 q (min (c .stops) 64)) → (p : ℕ) → p < 1024 → has declared p ≡ guardsAt t h q p (min (c .stops) 64))
+      → StateSets (getD sets q []) (eqb (getD leaves q 0) 1) (getD out q []) declared v
+      → (m g : List (List ℕ)) (r : Sheet) → Ready c m g t h sets r → Told c m g t out leaves ends stopped
       → (vs : List ℕ) × ((before : List ℕ) → StateRows _≤_ r q before → StateRows _≤_ r (suc q) (before ++ vs)) × Wrote room at vs room′ next
-  state-laid v {k} l e f lq a out o declared d x r w = (
+  state-laid v {k} l e f declared d x m g r w told = (
     stateRow q v k,
     λ before s.
-        StateRows.named {k = k} v (named-means (w .stands) q .so (sym n ∙ f)) (state-judged (w .accepted) (w .reaches) (w .stands) lq out o declared d a v x)
+        StateRows.named {k = k} v (named-told w told .so f)
+        (state-judged (w .accepted) (w .reaches) (w .stands) lq (getD out q []) (told .outward q lq) declared (d (told .declared q lq))
+        (mark-told (rowAt m 1 q (min (c .moves) 256)) (told .left q lq)) v x)
         (rw e (count-judged (w .accepted) (w .reaches) lq)) s,
     l,
   )
 
 -- ---- stop lines
 
-good-stop : {n : ℕ} {ds : List Stop} {d : Stop} → GoodStops n ds → List·Memᴰ d ds → GoodStop n d
-good-stop {n} g (List·Memᴰ·head e) = rw e (g .0)
-good-stop g (List·Memᴰ·tail i) = good-stop (g .2) i
-
--- the stop line of row i, judged
-pub stop-shown : {c : Counts} {m g t h sets : List (List ℕ)} (i : ℕ) (out : List ℕ) (v : StopVerdict)
-    → ((p : ℕ) → p < 1024 → has out p ≡ guardsAt m g (getD (getD t i []) 1 0) p (min (c .moves) 256))
-    → StopSets (getD sets (getD (getD t i []) 1 0 % 64) []) (getD h i []) out v
-    → (r : Sheet) → Ready c m g t h sets r → (d : Stop) → List·Memᴰ d (r .stops) → getD (getD t i []) 1 0 ≡ d .state → Means (getD h i []) (d .guard) → StopAs _≤_ r d v
-stop-shown {t = t} {h = h} i out v o x r w d j e k =
-    let small = good-stop (w .accepted .stops) j .state in
-    let place : getD (getD t i []) 1 0 % 64 ≡ d .state = omega arith in
-    stop-judged (w .accepted) (w .reaches) (w .stands) d j (getD h i []) k out (rw e at o) v (rw place at x)
+-- the first n rows are for all stop lines of the sheet, and `out` is what the guards of its moves give
+pub record StopsReady (n : ℕ) (t h sets out : List (List ℕ)) (r : Sheet) : Type 0 where
+  pub counts : Counts
+  pub moves : List (List ℕ)
+  pub guards : List (List ℕ)
+  pub is : n ≡ min (counts .stops) 64
+  pub ready : Ready counts moves guards t h sets r
+  pub outward : Outward counts moves guards out
 
 -- the rows of the first i stop lines, of n
 unfoldable pub StopsUpto : ℕ → ℕ → Sheet → List ℕ → Type 0
@@ -215,39 +243,49 @@ add-stop : {r : Sheet} (ds : List Stop) {x : Stop} {n k line : ℕ} (i : ℕ) (v
     → StopRows _≤_ r (drop (n - (i + 1)) ds) (vs ++ stopRow line v)
 add-stop ds i v vs k line split judged q = rw (line, k, split) (StopRows.next v judged (rw k at q))
 
-module _ {c : Counts} {m g t h sets : List (List ℕ)} {r : Sheet} (w : Ready c m g t h sets r) {n : ℕ} (e : n ≡ min (c .stops) 64) where
-  stops-count : n ≡ c .stops
-  stops-count = let few = w .stands .filled .stops .few in omega arith
+module _ {n : ℕ} {t h sets out : List (List ℕ)} {r : Sheet} (w : StopsReady n t h sets out r) where
+  stops-count : n ≡ w .counts .stops
+  stops-count = let few = w .ready .stands .filled .stops .few in let is = w .is in omega arith
 
   no-stop : StopsUpto n 0 r []
   unfolding StopsUpto
   no-stop =
       let k = stops-count in
-      let l = rows-length (w .stands .filled .stops .rows) in
+      let l = rows-length (w .ready .stands .filled .stops .rows) in
       rw (drop-of-length-le (r .stops) {i = n - 0} (omega arith)) StopRows.none
 
   one-stop : {i : ℕ} (v : StopVerdict) (vs : List ℕ) → i < n
-      → ((d : Stop) → List·Memᴰ d (r .stops) → getD (getD t i []) 1 0 ≡ d .state → Means (getD h i []) (d .guard) → StopAs _≤_ r d v)
+      → StopSets (getD sets (getD (getD t i []) 1 0 % 64) []) (getD h i []) (getD out (getD (getD t i []) 1 0 % 64) []) v
       → StopsUpto n i r vs → StopsUpto n (i + 1) r (vs ++ stopRow (getD (getD t i []) 0 0) v)
   unfolding StopsUpto
-  one-stop {i} v vs l f q =
+  one-stop {i} v vs l s q =
       let k = stops-count in
-      let x = row-next {i = i} (w .stands .filled .stops .rows) (w .stands .filled .stopGuards .rows) (omega arith) in
-      let judged = f (x .0) (x .4) (ap (λ (row : List ℕ). getD row 1 0) (x .2)) (x .3) in
+      let x = row-next {i = i} (w .ready .stands .filled .stops .rows) (w .ready .stands .filled .stopGuards .rows) (omega arith) in
+      let small = good-stop (w .ready .accepted .stops) (x .4) .state in
+      let state : getD (getD t i []) 1 0 ≡ x .0 .state = ap (λ (row : List ℕ). getD row 1 0) (x .2) in
+      let place : getD (getD t i []) 1 0 % 64 ≡ x .0 .state = omega arith in
+      let judged =
+      stop-judged (w .ready .accepted) (w .ready .reaches) (w .ready .stands) (x .0) (x .4) (getD h i []) (x .3) (getD out (x .0 .state) [])
+      (w .outward (x .0 .state) (omega arith)) v (rw place at s) in
       let line : getD (getD t i []) 0 0 ≡ x .0 .line = ap (λ (row : List ℕ). getD row 0 0) (x .2) in
       add-stop (r .stops) i v vs k line (x .1) judged q
 
-module _ {c : Counts} {m g t h sets : List (List ℕ)} {room : List ℕ} {at n : ℕ} (e : n ≡ min (c .stops) 64) where
-  pub stops-none : length room ≤ limit → Laid (Ready c m g t h sets) (StopsUpto n) room at 0 room at
-  stops-none l = laid-none l (λ r w. no-stop w e)
+-- ---- the loop over stop lines
 
-  pub stops-more : {i : ℕ} (v : StopVerdict) {room′ room″ : List ℕ} {next next″ : ℕ} → Laid (Ready c m g t h sets) (StopsUpto n) room at i room′ next
+module _ {n : ℕ} {t h sets out : List (List ℕ)} {room : List ℕ} {at : ℕ} where
+  pub stops-none : length room ≤ limit → Laid (StopsReady n t h sets out) (StopsUpto n) room at 0 room at
+  stops-none l = laid-none l (λ r w. no-stop w)
+
+  pub stops-more : {i : ℕ} (v : StopVerdict) {room′ room″ : List ℕ} {next next″ : ℕ} → Laid (StopsReady n t h sets out) (StopsUpto n) room at i room′ next
       → Wrote room′ next (stopRow (getD (getD t i []) 0 0) v) room″ next″ → i < n
-      → ((r : Sheet) → Ready c m g t h sets r → (d : Stop) → List·Memᴰ d (r .stops) → getD (getD t i []) 1 0 ≡ d .state → Means (getD h i []) (d .guard) → StopAs _≤_ r d v)
-      → Laid (Ready c m g t h sets) (StopsUpto n) room at (i + 1) room″ next″
-  stops-more {i} v l w lt f = laid-more l (wrote-long w) (λ r p. (stopRow (getD (getD t i []) 0 0) v, λ vs q. one-stop p e v vs lt (f r p) q, w))
+      → StopSets (getD sets (getD (getD t i []) 1 0 % 64) []) (getD h i []) (getD out (getD (getD t i []) 1 0 % 64) []) v
+      → Laid (StopsReady n t h sets out) (StopsUpto n) room at (i + 1) room″ next″
+  stops-more {i} v l w lt s = laid-more l (wrote-long w) (λ r p. (stopRow (getD (getD t i []) 0 0) v, λ vs q. one-stop p v vs lt s q, w))
 
-  pub stops-all : {i : ℕ} {room′ : List ℕ} {next : ℕ} → Laid (Ready c m g t h sets) (StopsUpto n) room at i room′ next → n ≤ i
-      → (r : Sheet) → Ready c m g t h sets r → (vs : List ℕ) × StopRows _≤_ r (r .stops) vs × Wrote room at vs room′ next
+  pub stops-all : {i : ℕ} {room′ : List ℕ} {next : ℕ} → Laid (StopsReady n t h sets out) (StopsUpto n) room at i room′ next → n ≤ i → {c : Counts} → n ≡ min (c .stops) 64
+      → (m g : List (List ℕ)) (r : Sheet) → Ready c m g t h sets r → Outward c m g out → (vs : List ℕ) × StopRows _≤_ r (r .stops) vs × Wrote room at vs room′ next
   unfolding StopsUpto
-  stops-all {i} l k r w = let x = l .text r w in let z : n - i ≡ 0 = omega arith in (x .0, rw z at (x .1), x .2)
+  stops-all {i} l k {c} e m g r w o =
+      let x = l .text r (record { counts = c; moves = m; guards = g; is = e; ready = w; outward = o }) in
+      let z : n - i ≡ 0 = omega arith in
+      (x .0, rw z at (x .1), x .2)

@@ -2,14 +2,16 @@
 use mathlib.Core.List.{List, [], _++_}
 use mathlib.Core.Logic.{_⊎_}
 use mathlib.Core.Path.{_≡_}
-use Prim.Native.Nat.{ℕ, _≤_, _<_}
+use Prim.Native.Nat.{ℕ, _≤_, _<_, min}
 use lib.ListN.{length, drop, getD}
+use Rattle.products.specs.Sets.{has, oneIf}
 use Rattle.sheet.specs.declared.Counts.{Counts}
 use Rattle.sheet.specs.Sheet.{Sheet}
 use Rattle.sheet.specs.Reading.{kept, refused, readSheet}
 use Rattle.sheet.specs.Tables.{tables, StandsFor}
 use Rattle.sheet.specs.Accepted.{Accepted}
 use Rattle.family.specs.Ways.{Reaches}
+use Rattle.verdicts.specs.Judging.{guardsAt, rowAt}
 use Rattle.reporting.specs.declared.Answer.{Answer}
 use Rattle.reporting.specs.declared.Answer.the-variants.{Done, Refused}
 use Rattle.reporting.specs.Report.{IsReport}
@@ -47,3 +49,14 @@ pub record Ready (c : Counts) (m g t h sets : List (List ℕ)) (r : Sheet) : Typ
   pub stands : StandsFor text (tables names valid m g t h) c r
   pub accepted : Accepted r
   pub reaches : Reaches r (λ q. getD sets q [])
+
+-- `out` has for each state the products in which the guard of a move line out of it holds
+abbrev pub Outward : Counts → List (List ℕ) → List (List ℕ) → List (List ℕ) → Type 0
+Outward c m g out = (q : ℕ) → q < 64 → (p : ℕ) → p < 1024 → has (getD out q []) p ≡ guardsAt m g q p (min (c .moves) 256)
+
+-- what one pass over the rows told of each state: `out`, and 1 or 0 for whether a move line leaves it, whether one ends in it, whether a stop line is for it
+pub record Told (c : Counts) (m g t out : List (List ℕ)) (leaves ends stopped : List ℕ) : Type 0 where
+  pub outward : Outward c m g out
+  pub left : (q : ℕ) → q < 64 → getD leaves q 0 ≡ oneIf (rowAt m 1 q (min (c .moves) 256))
+  pub ended : (q : ℕ) → q < 64 → getD ends q 0 ≡ oneIf (rowAt m 4 q (min (c .moves) 256))
+  pub declared : (q : ℕ) → q < 64 → getD stopped q 0 ≡ oneIf (rowAt t 1 q (min (c .stops) 64))

@@ -4,18 +4,18 @@ mod row;
 
 ghost use mathlib.Core.Path.{_≡_};
 ghost use mathlib.Core.Bool.{_||_};
-ghost use mathlib.Core.List.{List, _++_, List·Memᴰ};
+ghost use mathlib.Core.List.{List, _++_};
 ghost use Prim.Native.Nat.{ℕ, suc, _%_, _≤_, _<_, min};
 ghost use lib.Dec.{eqb};
 ghost use lib.ListN.{getD};
 ghost use Rattle.text.specs.Text.{Wrote};
-ghost use Rattle.guards.specs.Guard.{Means};
-ghost use Rattle.sheet.specs.Sheet.{Sheet, Stop};
-ghost use Rattle.verdicts.specs.Judging.{MoveSets, rowAt};
-ghost use Rattle.verdicts.specs.Verdicts.{StopAs};
+ghost use Rattle.products.specs.Sets.{has, oneIf};
+ghost use Rattle.sheet.specs.Sheet.{Sheet};
+ghost use Rattle.sheet.specs.Reading.{kept, readSheet};
+ghost use Rattle.verdicts.specs.Judging.{MoveSets, guardsAt, rowAt};
 ghost use Rattle.family.specs.Ways.{Depth};
 ghost use Rattle.reporting.specs.Report.{IsReport, MoveRows, StateRows, StopRows};
-ghost use Rattle.reporting.specs.Promise.{ReportPromise, Ready};
+ghost use Rattle.reporting.specs.Promise.{ReportPromise, Ready, Outward, Told};
 use row::put_depth;
 use row::put_move;
 use row::put_state;
@@ -23,13 +23,15 @@ use row::put_stop;
 use sheet::Counts;
 use sheet::SheetRead;
 use verdicts::Judged;
-use verdicts::StopVerdict;
 
 // Done with the text's length, or refused with number and line.
 pub enum Answer {
     Done(usize),
     Refused { number: u8, line: usize },
 }
+
+// A report of an accepted sheet is never as long as this; nothing hangs on it but speed.
+const OWN: usize = 12288;
 
 // Lays the report of the sheet `text` into `room`.
 pub fn report(text: &[u8], room: &mut [u8]) -> Answer
@@ -41,7 +43,7 @@ pub fn report(text: &[u8], room: &mut [u8]) -> Answer
     let mut move_guards = [[0u64; 16]; 256];
     let mut stops = [[0usize; 2]; 64];
     let mut stop_guards = [[0u64; 16]; 64];
-    let r = sheet::read_sheet(
+    let r = sheet::read_blank(
         text,
         &mut names,
         &mut valid,
@@ -55,20 +57,7 @@ pub fn report(text: &[u8], room: &mut [u8]) -> Answer
     };
     let mut sets = [[0u64; 16]; 64];
     let depth = family::spread(c.start, valid, c.moves, &moves, &move_guards, &mut sets);
-    let n = put_report(
-        &mut room[..0],
-        c,
-        depth,
-        &sets,
-        &moves,
-        &move_guards,
-        &stops,
-        &stop_guards,
-    );
-    if room.len() < n {
-        return refuse(11, 0);
-    }
-    let m = put_report(
+    lay(
         room,
         c,
         depth,
@@ -77,8 +66,43 @@ pub fn report(text: &[u8], room: &mut [u8]) -> Answer
         &move_guards,
         &stops,
         &stop_guards,
+    )
+}
+
+// Lays the report into the room, if it fits: by way of a buffer, whose text tells the length. A report
+// that is longer than the buffer is written once more.
+fn lay(
+    room: &mut [u8],
+    c: Counts,
+    depth: usize,
+    sets: &[[u64; 16]; 64],
+    moves: &[[usize; 6]; 256],
+    move_guards: &[[u64; 16]; 256],
+    stops: &[[usize; 2]; 64],
+    stop_guards: &[[u64; 16]; 64],
+) -> Answer
+    ensures { λ a. ⌜ ((s : List ℕ) (r : Sheet) → readSheet s ≡ kept r → Ready c (now (moves .entry)) (now («move_guards» .entry)) (now (stops .entry)) (now («stop_guards» .entry)) (now (sets .entry)) r → Depth r depth → ReportPromise s (now (room .entry)) (now (room .exit)) a) ⌝ }
+{
+    let mut own = [0u8; OWN];
+    let n = put_report(
+        &mut own,
+        c,
+        depth,
+        sets,
+        moves,
+        move_guards,
+        stops,
+        stop_guards,
     );
-    Answer::Done(m)
+    if room.len() < n {
+        return refuse(11, 0);
+    }
+    if n <= OWN {
+        let k = text::put_bytes(room, 0, &own[0..n]);
+        return Answer::Done(k);
+    }
+    let k = put_report(room, c, depth, sets, moves, move_guards, stops, stop_guards);
+    Answer::Done(k)
 }
 
 fn refuse(number: u8, line: usize) -> Answer
@@ -110,20 +134,11 @@ fn put_report(
 ) -> usize
     ensures { λ n. ⌜ ((r : Sheet) → Ready c (now (moves .entry)) (now («move_guards» .entry)) (now (stops .entry)) (now («stop_guards» .entry)) (now (sets .entry)) r → Depth r depth → (vs : List ℕ) × IsReport _≤_ r vs × Wrote (now (room .entry)) 0 vs (now (room .exit)) n) ⌝ }
 {
+    let out = verdicts::all_out(c.moves, moves, move_guards);
     let a = put_moves(room, 0, c, sets, moves, move_guards);
-    let b = put_states(room, a, c, sets, moves, move_guards, stops, stop_guards);
-    let d = put_stops(room, b, c, sets, moves, move_guards, stops, stop_guards);
+    let b = put_states(room, a, c, sets, &out, moves, stops, stop_guards);
+    let d = put_stops(room, b, c, sets, &out, stops, stop_guards);
     put_depth(room, d, depth)
-}
-
-// The smaller of the two.
-fn at_most(count: usize, most: usize) -> usize
-    ensures { λ r. ⌜ r ≡ min count most ⌝ }
-{
-    if most < count {
-        return most;
-    }
-    count
 }
 
 // The rows of all moves.
@@ -137,7 +152,7 @@ fn put_moves(
 ) -> usize
     ensures { λ n. ⌜ ((t h : List (List ℕ)) (r : Sheet) → Ready c (now (moves .entry)) (now («move_guards» .entry)) t h (now (sets .entry)) r → (vs : List ℕ) × MoveRows _≤_ r (r .moves) vs × Wrote (now (room .entry)) at vs (now (room .exit)) n) ⌝ }
 {
-    let n = at_most(c.moves, 256);
+    let n = counts::at_most(c.moves, 256);
     let mut next = at;
     let mut i = 0;
     while i < n {
@@ -169,13 +184,16 @@ fn put_states(
     at: usize,
     c: Counts,
     sets: &[[u64; 16]; 64],
+    out: &[[u64; 16]; 64],
     moves: &[[usize; 6]; 256],
-    move_guards: &[[u64; 16]; 256],
     stops: &[[usize; 2]; 64],
     stop_guards: &[[u64; 16]; 64],
 ) -> usize
-    ensures { λ n. ⌜ ((r : Sheet) → Ready c (now (moves .entry)) (now («move_guards» .entry)) (now (stops .entry)) (now («stop_guards» .entry)) (now (sets .entry)) r → (vs : List ℕ) × StateRows _≤_ r 64 vs × Wrote (now (room .entry)) at vs (now (room .exit)) n) ⌝ }
+    ensures { λ n. ⌜ ((g : List (List ℕ)) (r : Sheet) → Ready c (now (moves .entry)) g (now (stops .entry)) (now («stop_guards» .entry)) (now (sets .entry)) r → Outward c (now (moves .entry)) g (now (out .entry)) → (vs : List ℕ) × StateRows _≤_ r 64 vs × Wrote (now (room .entry)) at vs (now (room .exit)) n) ⌝ }
 {
+    let leaves = verdicts::states_at(c.moves, moves, 1);
+    let ends = verdicts::states_at(c.moves, moves, 4);
+    let stopped = verdicts::stopped_states(c.stops, stops);
     let mut next = at;
     let mut q = 0;
     while q < 64 {
@@ -185,8 +203,10 @@ fn put_states(
             q,
             c,
             sets,
-            moves,
-            move_guards,
+            out,
+            &leaves,
+            &ends,
+            &stopped,
             stops,
             stop_guards,
         );
@@ -202,40 +222,63 @@ fn put_state_at(
     q: usize,
     c: Counts,
     sets: &[[u64; 16]; 64],
-    moves: &[[usize; 6]; 256],
-    move_guards: &[[u64; 16]; 256],
+    out: &[[u64; 16]; 64],
+    leaves: &[u64; 64],
+    ends: &[u64; 64],
+    stopped: &[u64; 64],
     stops: &[[usize; 2]; 64],
     stop_guards: &[[u64; 16]; 64],
 ) -> usize
     requires { ⌜ q < 64 ⌝ }
-    ensures { λ n. ⌜ ((r : Sheet) → Ready c (now (moves .entry)) (now («move_guards» .entry)) (now (stops .entry)) (now («stop_guards» .entry)) (now (sets .entry)) r → (vs : List ℕ) × ((before : List ℕ) → StateRows _≤_ r q before → StateRows _≤_ r (suc q) (before ++ vs)) × Wrote (now (room .entry)) at vs (now (room .exit)) n) ⌝ }
+    ensures { λ n. ⌜ ((m g : List (List ℕ)) (r : Sheet) → Ready c m g (now (stops .entry)) (now («stop_guards» .entry)) (now (sets .entry)) r → Told c m g (now (stops .entry)) (now (out .entry)) (now (leaves .entry)) (now (ends .entry)) (now (stopped .entry)) → (vs : List ℕ) × ((before : List ℕ) → StateRows _≤_ r q before → StateRows _≤_ r (suc q) (before ++ vs)) × Wrote (now (room .entry)) at vs (now (room .exit)) n) ⌝ }
 {
-    if !is_named(q, c, moves, stops) {
+    if !is_named(q, c.start, leaves, ends, stopped) {
         return at;
     }
     let here = sets[q];
-    let leaves = verdicts::has_state(q, c.moves, moves, 1);
-    let out = verdicts::out_of(q, c.moves, moves, move_guards);
-    let declared = verdicts::declared_at(q, c.stops, stops, stop_guards);
-    let v = verdicts::judge_state(here, leaves, out, declared);
-    put_state(room, at, q, v, products::count(here))
+    let declared = declared_at(q, c.stops, stopped, stops, stop_guards);
+    let v = verdicts::judge_state(here, leaves[q] == 1, out[q], declared);
+    put_state(room, at, q, v, members::count(here))
 }
 
 // Whether a start, move or stop line names the state q.
-fn is_named(q: usize, c: Counts, moves: &[[usize; 6]; 256], stops: &[[usize; 2]; 64]) -> bool
-    ensures { λ r. ⌜ r ≡ (eqb q (c .start) || (rowAt (now (moves .entry)) 1 q (min (c .moves) 256) || (rowAt (now (moves .entry)) 4 q (min (c .moves) 256) || rowAt (now (stops .entry)) 1 q (min (c .stops) 64)))) ⌝ }
+fn is_named(
+    q: usize,
+    start: usize,
+    leaves: &[u64; 64],
+    ends: &[u64; 64],
+    stopped: &[u64; 64],
+) -> bool
+    requires { ⌜ q < 64 ⌝ }
+    ensures { λ r. ⌜ r ≡ (eqb q start || (eqb (getD (now (leaves .entry)) q 0) 1 || (eqb (getD (now (ends .entry)) q 0) 1 || eqb (getD (now (stopped .entry)) q 0) 1))) ⌝ }
 {
-    let start = c.start;
     if q == start {
         return true;
     }
-    if verdicts::has_state(q, c.moves, moves, 1) {
+    if leaves[q] == 1 {
         return true;
     }
-    if verdicts::has_state(q, c.moves, moves, 4) {
+    if ends[q] == 1 {
         return true;
     }
-    verdicts::has_stop(q, c.stops, stops)
+    stopped[q] == 1
+}
+
+// The products in which a stop line of q holds: none, if no stop line is for it.
+fn declared_at(
+    q: usize,
+    count: usize,
+    stopped: &[u64; 64],
+    stops: &[[usize; 2]; 64],
+    stop_guards: &[[u64; 16]; 64],
+) -> [u64; 16]
+    requires { ⌜ q < 64 ⌝ }
+    ensures { λ r. ⌜ (getD (now (stopped .entry)) q 0 ≡ oneIf (rowAt (now (stops .entry)) 1 q (min count 64)) → (p : ℕ) → p < 1024 → has r p ≡ guardsAt (now (stops .entry)) (now («stop_guards» .entry)) q p (min count 64)) ⌝ }
+{
+    if stopped[q] == 0 {
+        return [0u64; 16];
+    }
+    verdicts::declared_at(q, count, stops, stop_guards)
 }
 
 // The rows of all stop lines.
@@ -244,40 +287,21 @@ fn put_stops(
     at: usize,
     c: Counts,
     sets: &[[u64; 16]; 64],
-    moves: &[[usize; 6]; 256],
-    move_guards: &[[u64; 16]; 256],
+    out: &[[u64; 16]; 64],
     stops: &[[usize; 2]; 64],
     stop_guards: &[[u64; 16]; 64],
 ) -> usize
-    ensures { λ n. ⌜ ((r : Sheet) → Ready c (now (moves .entry)) (now («move_guards» .entry)) (now (stops .entry)) (now («stop_guards» .entry)) (now (sets .entry)) r → (vs : List ℕ) × StopRows _≤_ r (r .stops) vs × Wrote (now (room .entry)) at vs (now (room .exit)) n) ⌝ }
+    ensures { λ n. ⌜ ((m g : List (List ℕ)) (r : Sheet) → Ready c m g (now (stops .entry)) (now («stop_guards» .entry)) (now (sets .entry)) r → Outward c m g (now (out .entry)) → (vs : List ℕ) × StopRows _≤_ r (r .stops) vs × Wrote (now (room .entry)) at vs (now (room .exit)) n) ⌝ }
 {
-    let n = at_most(c.stops, 64);
+    let n = counts::at_most(c.stops, 64);
     let mut next = at;
     let mut i = 0;
     while i < n {
         let row = stops[i];
-        let v = stop_at(i, c, sets, moves, move_guards, stops, stop_guards);
+        let state = row[1] % 64;
+        let v = verdicts::judge_stop(sets[state], stop_guards[i], out[state]);
         next = put_stop(room, next, row[0], v);
         i += 1;
     }
     next
-}
-
-// The stop line of row i, judged.
-fn stop_at(
-    i: usize,
-    c: Counts,
-    sets: &[[u64; 16]; 64],
-    moves: &[[usize; 6]; 256],
-    move_guards: &[[u64; 16]; 256],
-    stops: &[[usize; 2]; 64],
-    stop_guards: &[[u64; 16]; 64],
-) -> StopVerdict
-    requires { ⌜ i < 64 ⌝ }
-    ensures { λ v. ⌜ ((r : Sheet) → Ready c (now (moves .entry)) (now («move_guards» .entry)) (now (stops .entry)) (now («stop_guards» .entry)) (now (sets .entry)) r → (d : Stop) → List·Memᴰ d (r .stops) → getD (getD (now (stops .entry)) i List.[]) 1 0 ≡ d .state → Means (getD (now («stop_guards» .entry)) i List.[]) (d .guard) → StopAs _≤_ r d v) ⌝ }
-{
-    let row = stops[i];
-    let state = row[1] % 64;
-    let out = verdicts::out_of(row[1], c.moves, moves, move_guards);
-    verdicts::judge_stop(sets[state], stop_guards[i], out)
 }

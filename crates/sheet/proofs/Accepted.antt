@@ -16,7 +16,7 @@ use Rattle.fields.specs.declared.Number.{Number}
 use Rattle.fields.specs.declared.Number.the-variants.{Of, Bad}
 use Rattle.fields.specs.Bytes.{sameBytes, isName, isAction, readState}
 use Rattle.fields.specs.Cutting.{lines, fields, One, only, notOne, Two, two, notTwo, Four, four, notFour, asOne, asTwo, asFour}
-use Rattle.fields.proofs.States.{state-small, state-written}
+use Rattle.values.proofs.States.{state-small, state-written}
 use Rattle.guards.specs.Guard.{Guard, never, holds, print, Declared, nesting}
 use Rattle.guards.specs.Reading.{Outcome, took, faulty, number, readWhole, GoodNames}
 use Rattle.guards.proofs.Exactly.{whole-exactly, whole-faulty}

@@ -13,7 +13,7 @@ use Rattle.products.specs.Sets.{oneIf}
 use Rattle.guards.specs.Guard.{never}
 use Rattle.sheet.specs.Sheet.{Stop}
 use Rattle.sheet.specs.Reading.{stopped}
-use Rattle.sheet.specs.Tables.{Apart}
+use Rattle.sheet.specs.Inside.{Apart}
 
 -- how many states below n are stopped
 unfoldable stoppedTo : ℕ → List Stop → ℕ

@@ -8,6 +8,7 @@ pub mod Determined
 pub mod Written
 pub mod ReadBack
 pub mod Looking
+pub mod Marks
 pub mod Spelled
 pub mod Moves
 pub mod Whole

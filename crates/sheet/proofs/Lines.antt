@@ -24,13 +24,14 @@ use Rattle.sheet.specs.declared.LineRead.{LineRead}
 use Rattle.sheet.specs.declared.LineRead.the-variants.{Kept, Refused}
 use Rattle.sheet.specs.Sheet.{Feature, Move, Stop, names}
 use Rattle.sheet.specs.Reading.{State, Answer, kept, refused, editionWord, guarded, keep, withFeature, withValid, withStart, ftsLine, featureLine, validLine, startLine}
-use Rattle.sheet.specs.Tables.{Tables, tables, Lies, Filled, Stands, Says}
+use Rattle.sheet.specs.Tables.{Tables, tables, Lies, Filled}
+use Rattle.sheet.specs.Inside.{Stands, Says}
 use Rattle.sheet.proofs.Rows.{rows-length, table-put, names-of}
 
-pub refuses : {s : List ℕ} {T : Tables} {r : LineRead} {a : Answer State} {e n : ℕ} → r ≡ Refused e n → a ≡ refused e n → Says s T r a
+pub refuses : {s : List ℕ} {T : Tables} {seen : List ℕ} {r : LineRead} {a : Answer State} {e n : ℕ} → r ≡ Refused e n → a ≡ refused e n → Says s T seen r a
 refuses z q = record { is = rw z q }
 
-pub keeps : {s : List ℕ} {T : Tables} {c : Progress} {a : Answer State} {st : State} → a ≡ kept st → Stands s T c st → Says s T (Kept c) a
+pub keeps : {s : List ℕ} {T : Tables} {seen : List ℕ} {c : Progress} {a : Answer State} {st : State} → a ≡ kept st → Stands s T seen c st → Says s T seen (Kept c) a
 keeps {st = st} q h = record { is = (st, q, h) }
 
 -- ---- one field or not
@@ -42,63 +43,63 @@ module _ (l : List ℕ) (o : Bool) (h : IsOne l o) where
   pub is-one : not o ≡ false → asOne (fields l) ≡ only l
   is-one e = subst (IsOne l) (not-false o e) h
 
-module _ (l : List ℕ) (o : Bool) (h : IsOne l o) (n : ℕ) (st : State) {s : List ℕ} {T : Tables} where
+module _ (l : List ℕ) (o : Bool) (h : IsOne l o) (n : ℕ) (st : State) {s : List ℕ} {T : Tables} {seen : List ℕ} where
   -- ---- `fts`
 
-  pub fts-wrong : {r : LineRead} → not o ≡ true → r ≡ Refused 3 n → Says s T r (ftsLine n st (asOne (fields l)))
+  pub fts-wrong : {r : LineRead} → not o ≡ true → r ≡ Refused 3 n → Says s T seen r (ftsLine n st (asOne (fields l)))
   unfolding ftsLine
   fts-wrong e z = refuses z (ap (ftsLine n st) (not-one l o h e))
 
   pub fts-other : {y : Bool} {r : LineRead} → not o ≡ false → y ≡ sameBytes l editionWord → not y ≡ true → r ≡ Refused 3 n
-      → Says s T r (ftsLine n st (asOne (fields l)))
+      → Says s T seen r (ftsLine n st (asOne (fields l)))
   unfolding ftsLine
   fts-other {y} e k t z =
       let f : sameBytes l editionWord ≡ false = sym k ∙ not-true y t in
       refuses z (ap (ftsLine n st) (is-one l o h e) ∙ rw f)
 
-  pub fts-kept : {y : Bool} {c : Progress} → Stands s T c st → not o ≡ false → y ≡ sameBytes l editionWord → not y ≡ false
-      → Says s T (Kept (record { section = 1; valid = c .valid; features = c .features; start = c .start; moves = c .moves; stops = c .stops })) (ftsLine n st (asOne (fields l)))
+  pub fts-kept : {y : Bool} {c : Progress} → Stands s T seen c st → not o ≡ false → y ≡ sameBytes l editionWord → not y ≡ false
+      → Says s T seen (Kept (record { section = 1; valid = c .valid; features = c .features; start = c .start; moves = c .moves; stops = c .stops })) (ftsLine n st (asOne (fields l)))
   unfolding ftsLine
   fts-kept {y} so e k t =
       let f : sameBytes l editionWord ≡ true = sym k ∙ not-false y t in
       keeps (ap (ftsLine n st) (is-one l o h e) ∙ rw f)
-      (record { section = refl; validLine = so .validLine; start = so .start; valid = so .valid; apart = so .apart; filled = so .filled })
+      (record { section = refl; validLine = so .validLine; start = so .start; valid = so .valid; apart = so .apart; filled = so .filled; marked = so .marked })
 
   -- ---- `start`
 
-  pub start-wrong : {r : LineRead} → not o ≡ true → r ≡ Refused 3 n → Says s T r (startLine n st (asOne (fields l)))
+  pub start-wrong : {r : LineRead} → not o ≡ true → r ≡ Refused 3 n → Says s T seen r (startLine n st (asOne (fields l)))
   unfolding startLine
   start-wrong e z = refuses z (ap (startLine n st) (not-one l o h e))
 
-  pub start-bad : {q : Number} {r : LineRead} → not o ≡ false → q ≡ Bad → q ≡ readState l → r ≡ Refused 4 n → Says s T r (startLine n st (asOne (fields l)))
+  pub start-bad : {q : Number} {r : LineRead} → not o ≡ false → q ≡ Bad → q ≡ readState l → r ≡ Refused 4 n → Says s T seen r (startLine n st (asOne (fields l)))
   unfolding startLine
   start-bad e b k z =
       let f : readState l ≡ Bad = sym k ∙ b in
       refuses z (ap (startLine n st) (is-one l o h e) ∙ rw f)
 
-  pub start-kept : {q : Number} {v : ℕ} {c : Progress} → Stands s T c st → not o ≡ false → q ≡ Of v → q ≡ readState l
-      → Says s T (Kept (record { section = 3; valid = c .valid; features = c .features; start = v; moves = c .moves; stops = c .stops })) (startLine n st (asOne (fields l)))
+  pub start-kept : {q : Number} {v : ℕ} {c : Progress} → Stands s T seen c st → not o ≡ false → q ≡ Of v → q ≡ readState l
+      → Says s T seen (Kept (record { section = 3; valid = c .valid; features = c .features; start = v; moves = c .moves; stops = c .stops })) (startLine n st (asOne (fields l)))
   unfolding startLine
   start-kept {v = v} so e b k =
       let f : readState l ≡ Of v = sym k ∙ b in
       keeps {st = record { section = 3; validLine = st .validLine; sheet = withStart (st .sheet) v }} (ap (startLine n st) (is-one l o h e) ∙ rw f)
-      (record { section = refl; validLine = so .validLine; start = refl; valid = so .valid; apart = so .apart; filled = so .filled })
+      (record { section = refl; validLine = so .validLine; start = refl; valid = so .valid; apart = so .apart; filled = so .filled; marked = so .marked })
 
 -- ---- what the names' rows and a guard's answer say
 
 -- the names in the table are the features' names
-pub names-stand : {s : List ℕ} {T : Tables} {c : Progress} {st : State} → Stands s T c st → namesOf s (T .names) (min (c .features) 10) ≡ names (st .sheet .features)
+pub names-stand : {s : List ℕ} {T : Tables} {seen : List ℕ} {c : Progress} {st : State} → Stands s T seen c st → namesOf s (T .names) (min (c .features) 10) ≡ names (st .sheet .features)
 names-stand {s} {T} {c} so =
     let few = so .filled .names .few in
     let e : min (c .features) 10 ≡ c .features = omega arith in
     ap (namesOf s (T .names)) e ∙ names-of s (T .names) (so .filled .names .rows)
 
 -- so a guard that is read over the table's names is read over the features' names
-pub guard-stands : {s : List ℕ} {T : Tables} {c : Progress} {st : State} (x : List ℕ) (rd : GuardRead) (gs : List ℕ) → Stands s T c st
+pub guard-stands : {s : List ℕ} {T : Tables} {seen : List ℕ} {c : Progress} {st : State} (x : List ℕ) (rd : GuardRead) (gs : List ℕ) → Stands s T seen c st
     → Reads x 0 rd gs (readWhole (namesOf s (T .names) (min (c .features) 10)) x) → Reads x 0 rd gs (readWhole (names (st .sheet .features)) x)
 guard-stands x rd gs so q = subst (λ (ns : List (List ℕ)). Reads x 0 rd gs (readWhole ns x)) (names-stand so) q
 
-pub features-counted : {s : List ℕ} {T : Tables} {c : Progress} {st : State} → Stands s T c st → length (st .sheet .features) ≡ c .features
+pub features-counted : {s : List ℕ} {T : Tables} {seen : List ℕ} {c : Progress} {st : State} → Stands s T seen c st → length (st .sheet .features) ≡ c .features
 features-counted so = rows-length (so .filled .names .rows)
 
 -- the set of valid products has no part in the rows
@@ -118,12 +119,12 @@ module _ (n : ℕ) (ns : List (List ℕ)) (x : List ℕ) (rd : GuardRead) (set :
 -- ---- `feature`
 
 module _ (l : List ℕ) (o : Bool) (h : IsOne l o) (n at : ℕ) (st : State) {s : List ℕ} where
-  pub feature-wrong : {T : Tables} {r : LineRead} → not o ≡ true → r ≡ Refused 3 n → Says s T r (featureLine n at st (asOne (fields l)))
+  pub feature-wrong : {T : Tables} {seen : List ℕ} {r : LineRead} → not o ≡ true → r ≡ Refused 3 n → Says s T seen r (featureLine n at st (asOne (fields l)))
   unfolding featureLine
   feature-wrong e z = refuses z (ap (featureLine n at st) (not-one l o h e))
 
-  module _ (e : not o ≡ false) {T : Tables} {c : Progress} (so : Stands s T c st) where
-    pub feature-full : {r : LineRead} → 10 ≤ c .features → r ≡ Refused 8 n → Says s T r (featureLine n at st (asOne (fields l)))
+  module _ (e : not o ≡ false) {T : Tables} {seen : List ℕ} {c : Progress} (so : Stands s T seen c st) where
+    pub feature-full : {r : LineRead} → 10 ≤ c .features → r ≡ Refused 8 n → Says s T seen r (featureLine n at st (asOne (fields l)))
     unfolding featureLine
     feature-full m z =
         let few = features-counted so in
@@ -133,7 +134,7 @@ module _ (l : List ℕ) (o : Bool) (h : IsOne l o) (n at : ℕ) (st : State) {s 
       few : leb 10 (length (st .sheet .features)) ≡ false
       few = let z = features-counted so in lt-leb 10 (length (st .sheet .features)) (omega arith)
 
-      pub feature-bad : {y : Bool} {r : LineRead} → y ≡ isName l → not y ≡ true → r ≡ Refused 4 n → Says s T r (featureLine n at st (asOne (fields l)))
+      pub feature-bad : {y : Bool} {r : LineRead} → y ≡ isName l → not y ≡ true → r ≡ Refused 4 n → Says s T seen r (featureLine n at st (asOne (fields l)))
       unfolding featureLine
       feature-bad {y} k t z =
           let f : isName l ≡ false = sym k ∙ not-true y t in
@@ -146,7 +147,7 @@ module _ (l : List ℕ) (o : Bool) (h : IsOne l o) (n at : ℕ) (st : State) {s 
         here : number (names (st .sheet .features)) l ≡ f
         here = ap (λ (ns : List (List ℕ)). number ns l) (sym (names-stand so)) ∙ sym q
 
-        pub feature-repeat : {i : ℕ} {r : LineRead} → f ≡ At i → r ≡ Refused 9 n → Says s T r (featureLine n at st (asOne (fields l)))
+        pub feature-repeat : {i : ℕ} {r : LineRead} → f ≡ At i → r ≡ Refused 9 n → Says s T seen r (featureLine n at st (asOne (fields l)))
         unfolding featureLine
         feature-repeat a z = refuses z (ap (featureLine n at st) (is-one l o h e) ∙ rw (few, good, here, a))
 
@@ -155,10 +156,10 @@ module _ (l : List ℕ) (o : Bool) (h : IsOne l o) (n at : ℕ) (st : State) {s 
         kept-feature a = ap (featureLine n at st) (is-one l o h e) ∙ rw (few, good, here, a)
 
 pub feature-kept : (l : List ℕ) (o : Bool) (h : IsOne l o) (n at : ℕ) (st : State) {s : List ℕ} (e : not o ≡ false)
-    {nm : List (List ℕ)} {v : List ℕ} {m g t d : List (List ℕ)} {c : Progress} (so : Stands s (tables nm v m g t d) c st)
+    {nm : List (List ℕ)} {v : List ℕ} {m g t d : List (List ℕ)} {seen : List ℕ} {c : Progress} (so : Stands s (tables nm v m g t d) seen c st)
     → c .features < 10 → {y : Bool} → y ≡ isName l → not y ≡ false → {f : Found} → f ≡ number (namesOf s nm (min (c .features) 10)) l → f ≡ Nothing
     → Lies s l at
-    → Says s (tables (set nm (c .features) (at ∷ (at + length l) ∷ [])) v m g t d)
+    → Says s (tables (set nm (c .features) (at ∷ (at + length l) ∷ [])) v m g t d) seen
     (Kept (record { section = 1; valid = c .valid; features = c .features + 1; start = c .start; moves = c .moves; stops = c .stops }))
     (featureLine n at st (asOne (fields l)))
 feature-kept l o h n at st e so few k t q a lies =
@@ -176,23 +177,24 @@ feature-kept l o h n at st e so few k t q a lies =
         stops = so .filled .stops;
         stopGuards = so .filled .stopGuards;
       };
+      marked = so .marked;
     })
 
 -- ---- `valid`
 
 module _ (l : List ℕ) (o : Bool) (h : IsOne l o) (n : ℕ) (st : State) {s : List ℕ} where
-  pub valid-wrong : {T : Tables} {r : LineRead} → not o ≡ true → r ≡ Refused 3 n → Says s T r (validLine n st (asOne (fields l)))
+  pub valid-wrong : {T : Tables} {seen : List ℕ} {r : LineRead} → not o ≡ true → r ≡ Refused 3 n → Says s T seen r (validLine n st (asOne (fields l)))
   unfolding validLine
   valid-wrong e z = refuses z (ap (validLine n st) (not-one l o h e))
 
-  module _ (e : not o ≡ false) (rd : GuardRead) (x : List ℕ) {nm : List (List ℕ)} {v : List ℕ} {m g t d : List (List ℕ)} {c : Progress}
-      (so : Stands s (tables nm v m g t d) c st) (q : Reads l 0 rd x (readWhole (namesOf s nm (min (c .features) 10)) l)) where
-    pub valid-refused : {i p : ℕ} {r : LineRead} → rd ≡ guard.Refused i p → r ≡ Refused i n → Says s (tables nm v m g t d) r (validLine n st (asOne (fields l)))
+  module _ (e : not o ≡ false) (rd : GuardRead) (x : List ℕ) {nm : List (List ℕ)} {v : List ℕ} {m g t d : List (List ℕ)} {seen : List ℕ} {c : Progress}
+      (so : Stands s (tables nm v m g t d) seen c st) (q : Reads l 0 rd x (readWhole (namesOf s nm (min (c .features) 10)) l)) where
+    pub valid-refused : {i p : ℕ} {r : LineRead} → rd ≡ guard.Refused i p → r ≡ Refused i n → Says s (tables nm v m g t d) seen r (validLine n st (asOne (fields l)))
     unfolding validLine
     valid-refused a z = refuses z (ap (validLine n st) (is-one l o h e) ∙ guard-refused n (names (st .sheet .features)) l rd x (guard-stands l rd x so q) _ a)
 
     pub valid-kept : {p : ℕ} → rd ≡ guard.Upto p
-        → Says s (tables nm x m g t d)
+        → Says s (tables nm x m g t d) seen
         (Kept (record { section = 2; valid = n; features = c .features; start = c .start; moves = c .moves; stops = c .stops }))
         (validLine n st (asOne (fields l)))
     unfolding validLine
@@ -206,4 +208,5 @@ module _ (l : List ℕ) (o : Bool) (h : IsOne l o) (n : ℕ) (st : State) {s : L
           valid = y .2;
           apart = so .apart;
           filled = filled-still (so .filled);
+          marked = so .marked;
         })

@@ -19,7 +19,7 @@ use Rattle.fields.specs.Bytes.{part, sameBytes, isAction, readState}
 use Rattle.fields.specs.Cutting.{fields, two, four, asTwo, asFour, CutsTwo, CutsFour}
 use Rattle.fields.proofs.Parts.{part-length, part-part}
 use Rattle.fields.proofs.Same.{same-true, same-false}
-use Rattle.fields.proofs.States.{state-small}
+use Rattle.values.proofs.States.{state-small}
 use Rattle.guards.specs.declared.GuardRead.{GuardRead}
 use Rattle.guards.specs.declared.GuardRead.the-variants as guard
 use Rattle.guards.specs.Guard.{Guard, never, always, feature, neg, chain, choice}
@@ -28,9 +28,12 @@ use Rattle.guards.proofs.Laws.{plain-yes, plain-no}
 use Rattle.sheet.specs.declared.Progress.{Progress}
 use Rattle.sheet.specs.declared.LineRead.{LineRead}
 use Rattle.sheet.specs.declared.LineRead.the-variants.{Kept, Refused}
+use Rattle.sheet.specs.declared.Triple.{Triple}
+use Rattle.sheet.specs.declared.Triple.the-variants as triple
 use Rattle.sheet.specs.Sheet.{Move, Stop, names}
 use Rattle.sheet.specs.Reading.{State, Answer, refuseIf, guarded, moved, stopped, keep, withMove, withStop, guardedMove, moveLine, stopLine}
-use Rattle.sheet.specs.Tables.{Tables, tables, Lies, Rows, plainOf, MoveRow, StopRow, Stands, Says}
+use Rattle.sheet.specs.Tables.{Tables, tables, Lies, Rows, plainOf, MoveRow, StopRow}
+use Rattle.sheet.specs.Inside.{Tells, Marked, TripledIn, Tripled, Stands, Says}
 use Rattle.sheet.proofs.Rows.{rows-length, table-put}
 use Rattle.sheet.proofs.Apart.{stops-fit}
 use Rattle.sheet.proofs.Lines.{refuses, keeps, guard-stands, guard-refused, guard-taken}
@@ -75,40 +78,40 @@ lies-part {s} {l} {at} b e h k m =
 -- ---- `move`: the guard, the repeat and the row
 
 module _ (n : ℕ) (st : State) (from : ℕ) (action : List ℕ) (place to : ℕ) (x : List ℕ) (rd : GuardRead) (gs : List ℕ)
-    {s : List ℕ} {nm : List (List ℕ)} {v : List ℕ} {m g t d : List (List ℕ)} {c : Progress}
-    (so : Stands s (tables nm v m g t d) c st) (q : Reads x 0 rd gs (readWhole (namesOf s nm (min (c .features) 10)) x)) where
-  pub move-refused : {i p : ℕ} {r : LineRead} → rd ≡ guard.Refused i p → r ≡ Refused i n → Says s (tables nm v m g t d) r (guardedMove n st from action place to x)
+    {s : List ℕ} {nm : List (List ℕ)} {v : List ℕ} {m g t d : List (List ℕ)} {seen : List ℕ} {c : Progress}
+    (so : Stands s (tables nm v m g t d) seen c st) (q : Reads x 0 rd gs (readWhole (namesOf s nm (min (c .features) 10)) x)) where
+  pub move-refused : {i p : ℕ} {r : LineRead} → rd ≡ guard.Refused i p → r ≡ Refused i n → Says s (tables nm v m g t d) seen r (guardedMove n st from action place to x)
   unfolding guardedMove
   move-refused a z = refuses z (guard-refused n (names (st .sheet .features)) x rd gs (guard-stands x rd gs so q) _ a)
 
-  module _ {p : ℕ} (a : rd ≡ guard.Upto p) {y : Bool}
-      (has : (ms : List Move) → Rows (λ i k. MoveRow s (getD m i []) k) (min (c .moves) 256) ms → y ≡ moved from action to ms) where
+  module _ {p : ℕ} (a : rd ≡ guard.Upto p) {y : Bool} {seen′ : List ℕ}
+      (has : (ms : List Move) → Rows (λ i k. MoveRow s (getD m i []) k) (min (c .moves) 256) ms → Marked seen ms → Tells seen′ from action to ms y) where
     after : Guard → Answer State
     after k =
         refuseIf (moved from action to (st .sheet .moves)) 9 n
         (keep 3 (st .validLine) (withMove (st .sheet) (record { line = n; from = from; action = action; place = place; to = to; guard = k })))
 
-    repeats : y ≡ moved from action to (st .sheet .moves)
+    repeats : Tells seen′ from action to (st .sheet .moves) y
     repeats =
         let few = so .filled .moves .few in
         let e : min (c .moves) 256 ≡ c .moves = omega arith in
-        has (st .sheet .moves) (rw e (so .filled .moves .rows))
+        has (st .sheet .moves) (rw e (so .filled .moves .rows)) (so .marked)
 
-    pub move-repeat : {r : LineRead} → y ≡ true → r ≡ Refused 9 n → Says s (tables nm v m g t d) r (guardedMove n st from action place to x)
+    pub move-repeat : {r : LineRead} → y ≡ true → r ≡ Refused 9 n → Says s (tables nm v m g t d) seen′ r (guardedMove n st from action place to x)
     unfolding guardedMove after
     move-repeat e z =
         let w = guard-taken n (names (st .sheet .features)) x rd gs (guard-stands x rd gs so q) after a in
-        refuses z (w .3 ∙ rw (sym repeats ∙ e))
+        refuses z (w .3 ∙ rw (sym (repeats .is) ∙ e))
 
     pub move-kept : {u : ℕ} → y ≡ false → c .moves < 256 → Lies s action place → u ≡ oneIf (sameBytes x (49 ∷ []))
-        → Says s (tables nm v (set m (c .moves) (n ∷ from ∷ place ∷ (place + length action) ∷ to ∷ u ∷ [])) (set g (c .moves) gs) t d)
+        → Says s (tables nm v (set m (c .moves) (n ∷ from ∷ place ∷ (place + length action) ∷ to ∷ u ∷ [])) (set g (c .moves) gs) t d) seen′
         (Kept (record { section = 3; valid = c .valid; features = c .features; start = c .start; moves = c .moves + 1; stops = c .stops }))
         (guardedMove n st from action place to x)
     unfolding guardedMove after
     move-kept {u} e few lies f =
         let w = guard-taken n (names (st .sheet .features)) x rd gs (guard-stands x rd gs so q) after a in
         let k : u ≡ plainOf (w .0) = f ∙ plain-is (names (st .sheet .features)) x (w .1) in
-        keeps (w .3 ∙ rw (sym repeats ∙ e))
+        keeps (w .3 ∙ rw (sym (repeats .is) ∙ e))
         (record {
           section = refl;
           validLine = so .validLine;
@@ -122,7 +125,34 @@ module _ (n : ℕ) (st : State) (from : ℕ) (action : List ℕ) (place to : ℕ
             stops = so .filled .stops;
             stopGuards = so .filled .stopGuards;
           };
+          marked = repeats .marked _ refl refl refl;
         })
+
+-- ---- `move`: from, action and to
+
+module _ (f a t : List ℕ) where
+  pub triple-from : {o : Number} → o ≡ Bad → o ≡ readState f → Tripled f a t triple.Bad
+  triple-from e g = let y : readState f ≡ Bad = sym g ∙ e in record { is = λ n k. rw y }
+
+  module _ {o : Number} {from : ℕ} (e : o ≡ Of from) (g : o ≡ readState f) where
+    source : readState f ≡ Of from
+    source = sym g ∙ e
+
+    pub triple-action : {b : Bool} → b ≡ isAction a → not b ≡ true → Tripled f a t triple.Bad
+    triple-action {b} h i = let y : isAction a ≡ false = sym h ∙ not-true b i in record { is = λ n k. rw (source, y) }
+
+    module _ {b : Bool} (h : b ≡ isAction a) (i : not b ≡ false) where
+      good : isAction a ≡ true
+      good = sym h ∙ not-false b i
+
+      pub triple-to : {p : Number} → p ≡ Bad → p ≡ readState t → Tripled f a t triple.Bad
+      triple-to j q = let y : readState t ≡ Bad = sym q ∙ j in record { is = λ n k. rw (source, good, y) }
+
+      pub triple-good : {p : Number} {to : ℕ} → p ≡ Of to → p ≡ readState t → Tripled f a t (triple.Good from to)
+      triple-good {to = to} j q = let y : readState t ≡ Of to = sym q ∙ j in record { is = λ n k. rw (source, good, y) }
+
+tripled-as : {f a t : List ℕ} {x y : Triple} → Tripled f a t x → x ≡ y → TripledIn f a t y
+tripled-as q e = rw e at (q .is)
 
 -- ---- `move`: the fields
 
@@ -141,18 +171,18 @@ module _ (l : List ℕ) {cut : FourFields} {b m d : ℕ} (e : cut ≡ Ends b m d
       subst (Lies s (part l (b + 1) m)) z (lies-part (b + 1) m k (omega arith) (omega arith))
 
 module _ (l : List ℕ) (n at : ℕ) (st : State) {s : List ℕ} where
-  pub move-wrong : {T : Tables} {cut : FourFields} {r : LineRead} → cut ≡ NotFour → CutsFour l cut → r ≡ Refused 3 n → Says s T r (moveLine n at st (asFour (fields l)))
+  pub move-wrong : {T : Tables} {seen : List ℕ} {cut : FourFields} {r : LineRead} → cut ≡ NotFour → CutsFour l cut → r ≡ Refused 3 n → Says s T seen r (moveLine n at st (asFour (fields l)))
   unfolding moveLine
   move-wrong e h z = refuses z (ap (moveLine n at st) (subst (CutsFour l) e h))
 
-  module _ {T : Tables} {c : Progress} (so : Stands s T c st) {cut : FourFields} {b m d : ℕ} (e : cut ≡ Ends b m d) (h : CutsFour l cut) where
+  module _ {T : Tables} {seen : List ℕ} {c : Progress} (so : Stands s T seen c st) {cut : FourFields} {b m d : ℕ} (e : cut ≡ Ends b m d) (h : CutsFour l cut) where
     cuts : asFour (fields l) ≡ four (part l 0 b) (part l (b + 1) m) (part l (m + 1) d) (part l (d + 1) (length l))
     cuts = ends-of l e h .3
 
     counted : length (st .sheet .moves) ≡ c .moves
     counted = rows-length (so .filled .moves .rows)
 
-    pub move-full : {r : LineRead} → 256 ≤ c .moves → r ≡ Refused 8 n → Says s T r (moveLine n at st (asFour (fields l)))
+    pub move-full : {r : LineRead} → 256 ≤ c .moves → r ≡ Refused 8 n → Says s T seen r (moveLine n at st (asFour (fields l)))
     unfolding moveLine
     move-full k z = let y = counted in refuses z (rw (cuts, le-leb 256 (length (st .sheet .moves)) (omega arith)))
 
@@ -160,35 +190,19 @@ module _ (l : List ℕ) (n at : ℕ) (st : State) {s : List ℕ} where
       few : leb 256 (length (st .sheet .moves)) ≡ false
       few = let y = counted in lt-leb 256 (length (st .sheet .moves)) (omega arith)
 
-      pub move-from : {f : Number} {r : LineRead} → f ≡ Bad → f ≡ readState (part l 0 b) → r ≡ Refused 4 n → Says s T r (moveLine n at st (asFour (fields l)))
-      unfolding moveLine
-      move-from f1 g1 z = let y : readState (part l 0 b) ≡ Bad = sym g1 ∙ f1 in refuses z (rw (cuts, few, y))
-
-      module _ {f : Number} {from : ℕ} (f1 : f ≡ Of from) (g1 : f ≡ readState (part l 0 b)) where
-        source : readState (part l 0 b) ≡ Of from
-        source = sym g1 ∙ f1
-
-        pub move-action : {a : Bool} {r : LineRead} → a ≡ isAction (part l (b + 1) m) → not a ≡ true → r ≡ Refused 4 n → Says s T r (moveLine n at st (asFour (fields l)))
+      module _ {o : Triple} (q : Tripled (part l 0 b) (part l (b + 1) m) (part l (m + 1) d) o) where
+        pub move-bad : {r : LineRead} → o ≡ triple.Bad → r ≡ Refused 4 n → Says s T seen r (moveLine n at st (asFour (fields l)))
         unfolding moveLine
-        move-action {a} g2 f2 z = let y : isAction (part l (b + 1) m) ≡ false = sym g2 ∙ not-true a f2 in refuses z (rw (cuts, few, source, y))
+        move-bad f z = refuses z (rw (cuts, few) (tripled-as q f n _))
 
-        module _ {a : Bool} (g2 : a ≡ isAction (part l (b + 1) m)) (f2 : not a ≡ false) where
-          good : isAction (part l (b + 1) m) ≡ true
-          good = sym g2 ∙ not-false a f2
-
-          pub move-to : {o : Number} {r : LineRead} → o ≡ Bad → o ≡ readState (part l (m + 1) d) → r ≡ Refused 4 n → Says s T r (moveLine n at st (asFour (fields l)))
-          unfolding moveLine
-          move-to f3 g3 z = let y : readState (part l (m + 1) d) ≡ Bad = sym g3 ∙ f3 in refuses z (rw (cuts, few, source, good, y))
-
-          pub move-on : {o : Number} {to : ℕ} {T′ : Tables} {r : LineRead} → o ≡ Of to → o ≡ readState (part l (m + 1) d)
-              → Says s T′ r (guardedMove n st from (part l (b + 1) m) (at + b + 1) to (part l (d + 1) (length l)))
-              → Says s T′ r (moveLine n at st (asFour (fields l)))
-          unfolding moveLine
-          move-on {o} {to} {T′} {r} f3 g3 w =
-              let y : readState (part l (m + 1) d) ≡ Of to = sym g3 ∙ f3 in
-              let i = ends-of l e h in
-              let j : at + length (part l 0 b) + 1 ≡ at + b + 1 = omega (arith, part-length l 0 b (omega arith)) in
-              rw (cuts, few, source, good, y, j) w
+        pub move-on : {from to : ℕ} {T′ : Tables} {seen′ : List ℕ} {r : LineRead} → o ≡ triple.Good from to
+            → Says s T′ seen′ r (guardedMove n st from (part l (b + 1) m) (at + b + 1) to (part l (d + 1) (length l)))
+            → Says s T′ seen′ r (moveLine n at st (asFour (fields l)))
+        unfolding moveLine
+        move-on f w =
+            let i = ends-of l e h in
+            let j : at + length (part l 0 b) + 1 ≡ at + b + 1 = omega (arith, part-length l 0 b (omega arith)) in
+            rw (cuts, few, j, tripled-as q f n (λ x y. guardedMove n st x (part l (b + 1) m) (at + b + 1) y (part l (d + 1) (length l)))) w
 
 -- ---- `stop`
 
@@ -196,7 +210,7 @@ pub parted-of : (l : List ℕ) {cut : TwoFields} {b : ℕ} → cut ≡ Parted b 
 parted-of l e h = subst (CutsTwo l) e h
 
 module _ (l : List ℕ) (n : ℕ) (st : State) where
-  pub stop-wrong : {s : List ℕ} {T : Tables} {cut : TwoFields} {r : LineRead} → cut ≡ NotTwo → CutsTwo l cut → r ≡ Refused 3 n → Says s T r (stopLine n st (asTwo (fields l)))
+  pub stop-wrong : {s : List ℕ} {T : Tables} {seen : List ℕ} {cut : TwoFields} {r : LineRead} → cut ≡ NotTwo → CutsTwo l cut → r ≡ Refused 3 n → Says s T seen r (stopLine n st (asTwo (fields l)))
   unfolding stopLine
   stop-wrong e h z = refuses z (ap (stopLine n st) (subst (CutsTwo l) e h))
 
@@ -204,12 +218,12 @@ module _ (l : List ℕ) (n : ℕ) (st : State) where
     halves : asTwo (fields l) ≡ two (part l 0 b) (part l (b + 1) (length l))
     halves = parted-of l e h .1
 
-    pub stop-state : {s : List ℕ} {T : Tables} {q : Number} {r : LineRead} → q ≡ Bad → q ≡ readState (part l 0 b) → r ≡ Refused 4 n → Says s T r (stopLine n st (asTwo (fields l)))
+    pub stop-state : {s : List ℕ} {T : Tables} {seen : List ℕ} {q : Number} {r : LineRead} → q ≡ Bad → q ≡ readState (part l 0 b) → r ≡ Refused 4 n → Says s T seen r (stopLine n st (asTwo (fields l)))
     unfolding stopLine
     stop-state f1 g1 z = let y : readState (part l 0 b) ≡ Bad = sym g1 ∙ f1 in refuses z (rw (halves, y))
 
     module _ {q : Number} {w : ℕ} (f1 : q ≡ Of w) (g1 : q ≡ readState (part l 0 b)) (rd : GuardRead) (gs : List ℕ)
-        {s : List ℕ} {nm : List (List ℕ)} {v : List ℕ} {m g t d : List (List ℕ)} {c : Progress} (so : Stands s (tables nm v m g t d) c st)
+        {s : List ℕ} {nm : List (List ℕ)} {v : List ℕ} {m g t d : List (List ℕ)} {seen : List ℕ} {c : Progress} (so : Stands s (tables nm v m g t d) seen c st)
         (k : Reads (part l (b + 1) (length l)) 0 rd gs (readWhole (namesOf s nm (min (c .features) 10)) (part l (b + 1) (length l)))) where
       x : List ℕ
       x = part l (b + 1) (length l)
@@ -228,7 +242,7 @@ module _ (l : List ℕ) (n : ℕ) (st : State) where
       unfolding stopLine x then
       begins = rw (halves, stopping)
 
-      pub stop-refused : {i p : ℕ} {r : LineRead} → rd ≡ guard.Refused i p → r ≡ Refused i n → Says s (tables nm v m g t d) r (stopLine n st (asTwo (fields l)))
+      pub stop-refused : {i p : ℕ} {r : LineRead} → rd ≡ guard.Refused i p → r ≡ Refused i n → Says s (tables nm v m g t d) seen r (stopLine n st (asTwo (fields l)))
       stop-refused a z = refuses z (begins ∙ guard-refused n (names (st .sheet .features)) x rd gs told then a)
 
       module _ {p : ℕ} (a : rd ≡ guard.Upto p) {y : Bool}
@@ -239,7 +253,7 @@ module _ (l : List ℕ) (n : ℕ) (st : State) where
             let z : min (c .stops) 64 ≡ c .stops = omega arith in
             has (st .sheet .stops) (rw z (so .filled .stops .rows))
 
-        pub stop-repeat : {r : LineRead} → y ≡ true → r ≡ Refused 9 n → Says s (tables nm v m g t d) r (stopLine n st (asTwo (fields l)))
+        pub stop-repeat : {r : LineRead} → y ≡ true → r ≡ Refused 9 n → Says s (tables nm v m g t d) seen r (stopLine n st (asTwo (fields l)))
         unfolding then
         stop-repeat i z =
             let u = guard-taken n (names (st .sheet .features)) x rd gs told then a in
@@ -253,18 +267,19 @@ module _ (l : List ℕ) (n : ℕ) (st : State) where
             let j = rows-length (so .filled .stops .rows) in
             omega arith
 
-        pub stop-never : {r : LineRead} → y ≡ false → 64 ≤ c .stops → Says s (tables nm v m g t d) r (stopLine n st (asTwo (fields l)))
+        pub stop-never : {r : LineRead} → y ≡ false → 64 ≤ c .stops → Says s (tables nm v m g t d) seen r (stopLine n st (asTwo (fields l)))
         stop-never i z = let j = fits i in absurd (omega arith)
 
-        pub stop-kept : y ≡ false
-            → Says s (tables nm v m g (set t (c .stops) (n ∷ w ∷ [])) (set d (c .stops) gs))
-            (Kept (record { section = 4; valid = c .valid; features = c .features; start = c .start; moves = c .moves; stops = c .stops + 1 }))
-            (stopLine n st (asTwo (fields l)))
+        pub stop-kept : {u : Progress} → y ≡ false
+            → u ≡ record { section = 4; valid = c .valid; features = c .features; start = c .start; moves = c .moves; stops = c .stops + 1 }
+            → Says s (tables nm v m g (set t (c .stops) (n ∷ w ∷ [])) (set d (c .stops) gs)) seen
+            (Kept u) (stopLine n st (asTwo (fields l)))
         unfolding then
-        stop-kept i =
-            let u = guard-taken n (names (st .sheet .features)) x rd gs told then a in
+        stop-kept i f =
+            let z = guard-taken n (names (st .sheet .features)) x rd gs told then a in
             let small = state-small (part l 0 b) stopping in
-            keeps (begins ∙ u .3 ∙ rw (sym comes ∙ i))
+            rw f
+            (keeps (begins ∙ z .3 ∙ rw (sym comes ∙ i))
             (record {
               section = refl;
               validLine = so .validLine;
@@ -276,6 +291,7 @@ module _ (l : List ℕ) (n : ℕ) (st : State) where
                 moves = so .filled .moves;
                 moveGuards = so .filled .moveGuards;
                 stops = table-put (so .filled .stops) (fits i) refl;
-                stopGuards = table-put (so .filled .stopGuards) (fits i) (u .2);
+                stopGuards = table-put (so .filled .stopGuards) (fits i) (z .2);
               };
-            })
+              marked = so .marked;
+            }))

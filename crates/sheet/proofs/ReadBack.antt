@@ -64,9 +64,6 @@ module _ {r s : Sheet} (e : Alike r s) where
 pub alike-back : {r s : Sheet} → Alike r s → Alike s r
 alike-back e = record { is = sym (e .is) }
 
-pub alike-then : {r s t : Sheet} → Alike r s → Alike s t → Alike r t
-alike-then e f = record { is = e .is ∙ f .is }
-
 -- each move of the one has its like in the other, and each stop
 pub alike-move : {r s : Sheet} {m : Move} → Alike r s → List·Memᴰ m (r .moves) → (k : Move) × List·Memᴰ k (s .moves) × (bareMove k ≡ bareMove m)
 alike-move {r} {s} {m} e i = Memᴰ·of-map bareMove (s .moves) (subst (λ (x : Sheet). List·Memᴰ (bareMove m) (x .moves)) (e .is) (Memᴰ·map bareMove i))

@@ -7,7 +7,7 @@ use Prim.Native.Nat.{ℕ, suc, _+_, _-_, _^_, _≤_, _<_, min}
 use native.Mathlib.Omega.{arith}
 use borrow.Author.Tests.{eq-eqb, ne-eqb, lt-ltb, le-ltb}
 use lib.Dec.{ltb}
-use lib.ListN.{length, getD, drop}
+use lib.ListN.{length, getD, drop, replicate}
 use lib.Pow.{pow-mono}
 use Rattle.products.specs.declared.Found.{Found}
 use Rattle.products.specs.declared.Found.the-variants.{At, Nothing}
@@ -28,8 +28,10 @@ use Rattle.sheet.specs.declared.SheetRead.{SheetRead}
 use Rattle.sheet.specs.declared.SheetRead.the-variants as whole
 use Rattle.sheet.specs.Sheet.{Sheet, isValid}
 use Rattle.sheet.specs.Reading.{State, Answer, refused, goOn, kindIn, byKind, byWord, ftsLine, featureLine, validLine, startLine, moveLine, stopLine, readLine, ended, readLines, nothing, last, readSheet}
-use Rattle.sheet.specs.Tables.{Tables, tables, blankTables, Lies, Stands, Says, SaysIn, Ends, EndsIn, ReadsSheet}
+use Rattle.sheet.specs.Tables.{Tables, tables, blankTables, Lies, ReadsSheet}
+use Rattle.sheet.specs.Inside.{Stands, Says, SaysIn, Ends, EndsIn}
 use Rattle.sheet.proofs.Rows.{table-blank}
+use Rattle.sheet.proofs.Marks.{marked-none}
 use Rattle.sheet.proofs.ValidProducts.{none-true, valid-found}
 use Rattle.sheet.proofs.Lines.{features-counted, filled-still}
 use Rattle.sheet.proofs.Moves.{lies-part}
@@ -60,13 +62,13 @@ module _ (l : List ℕ) {w : ℕ} (h : FirstAt l 9 0 w) (n at : ℕ) (st : State
       let y : kindIn (st .section) (part l 0 w) ≡ k = ap (λ (x : ℕ). kindIn x (part l 0 w)) (sym s) ∙ sym d in
       ap (byWord n at st) (cut-more h ([] ∷ []) e) ∙ rw (z, y, part-rest l (w + 1))
 
-pub says-as : {s : List ℕ} {T : Tables} {r : LineRead} {a b : Answer State} → a ≡ b → Says s T r b → Says s T r a
+pub says-as : {s : List ℕ} {T : Tables} {seen : List ℕ} {r : LineRead} {a b : Answer State} → a ≡ b → Says s T seen r b → Says s T seen r a
 says-as e h = rw e h
 
 -- the line by its kind, once the kind is known
-pub line-of : (l : List ℕ) {w : ℕ} (h : FirstAt l 9 0 w) (n at : ℕ) (st : State) {k m : LineKind} {q : ℕ} {s : List ℕ} {T : Tables} {r : LineRead}
+pub line-of : (l : List ℕ) {w : ℕ} (h : FirstAt l 9 0 w) (n at : ℕ) (st : State) {k m : LineKind} {q : ℕ} {s : List ℕ} {T : Tables} {seen : List ℕ} {r : LineRead}
     → w < length l → q ≡ st .section → k ≡ kindIn q (part l 0 w) → k ≡ m
-    → Says s T r (byKind m n (at + w + 1) st (fields (part l (w + 1) (length l)))) → Says s T r (readLine n at st l)
+    → Says s T seen r (byKind m n (at + w + 1) st (fields (part l (w + 1) (length l)))) → Says s T seen r (readLine n at st l)
 line-of l {w} h n at st e s d f g =
     says-as (line-worded l h n at st e s d ∙ ap (λ (x : LineKind). byKind x n (at + w + 1) st (fields (part l (w + 1) (length l)))) f) g
 
@@ -99,7 +101,8 @@ one-false : (b : Bool) → (oneIf b ≡ 1 → ⊥) → b ≡ false
 one-false true f = absurd (f refl)
 one-false false f = refl
 
-module _ {s : List ℕ} {nm : List (List ℕ)} {v : List ℕ} {m g t d : List (List ℕ)} {c : Progress} {st : State} (so : Stands s (tables nm v m g t d) c st) (n : ℕ) where
+module _ {s : List ℕ} {nm : List (List ℕ)} {v : List ℕ} {m g t d : List (List ℕ)} {seen : List ℕ} {c : Progress} {st : State}
+    (so : Stands s (tables nm v m g t d) seen c st) (n : ℕ) where
   pub lacking : {T : Tables} {r : SheetRead} → c .section < 3 → r ≡ whole.Refused 3 n → Ends s T r (ended n st)
   unfolding ended
   lacking l z = let e = so .section in record { is = rw z (rw (lt-ltb (st .section) 3 (omega arith))) }
@@ -147,14 +150,73 @@ module _ {s : List ℕ} {nm : List (List ℕ)} {v : List ℕ} {m g t d : List (L
 
 -- ---- the loop over the lines
 
--- the lines so far stand for a state, and the sheet reads as what is left to read from there
-pub record Going (s : List ℕ) (T : Tables) (c : Progress) (n at : ℕ) : Type 0 where
+-- all lines of a sheet, from the first
+abbrev pub fromTop : List ℕ → Answer Sheet
+fromTop s = readLines 1 0 nothing (lines s)
+
+-- the lines so far stand for a state, and all lines read as what is left to read from there
+pub record Going (s : List ℕ) (T : Tables) (seen : List ℕ) (c : Progress) (n at : ℕ) : Type 0 where
   pub state : State
-  pub stands : Stands s T c state
-  pub left : readSheet s ≡ readLines n at state (lines (drop at s))
+  pub stands : Stands s T seen c state
+  pub left : fromTop s ≡ readLines n at state (lines (drop at s))
   pub ends : getD s (length s - 1) 0 ≡ 10
   pub within : at ≤ length s
   pub few : n ≤ at + 1
+
+pub going-start : {s : List ℕ} {T : Tables} → T ≡ blankTables → getD s (length s - 1) 0 ≡ 10
+    → Going s T (replicate 2048 0) (record { section = 0; valid = 0; features = 0; start = 0; moves = 0; stops = 0 }) 1 0
+unfolding Means holds
+going-start b e =
+    rw b
+    (record {
+      state = nothing;
+      stands = record {
+        section = refl;
+        validLine = refl;
+        start = refl;
+        valid = λ p k. empty-has p;
+        apart = tt;
+        filled = record { names = table-blank; moves = table-blank; moveGuards = table-blank; stops = table-blank; stopGuards = table-blank };
+        marked = marked-none;
+      };
+      left = refl;
+      ends = e;
+      within = omega arith;
+      few = omega arith;
+    })
+
+module _ {s : List ℕ} {T : Tables} {seen : List ℕ} {c : Progress} {n at : ℕ} (go : Going s T seen c n at) where
+  module _ (l : at < length s) {e : ℕ} (h : FirstAt s 10 at e) where
+    pub line-ends : (at ≤ e) × (e < length s)
+    line-ends = let z = first-there h l (go .ends) in (h .here z .0, z)
+
+    turn : fromTop s ≡ goOn (readLine n at (go .state) (part s at e)) (λ st. readLines (n + 1) (e + 1) st (lines (drop (e + 1) s)))
+    unfolding readLines
+    turn =
+        let z = line-ends in
+        let y : at + length (part s at e) + 1 ≡ e + 1 = omega (arith, part-length s at e (omega arith)) in
+        go .left ∙ ap (readLines n at (go .state)) (lines-more h (z .1)) ∙ rw y
+
+    module _ {T′ : Tables} {seen′ : List ℕ} {r : LineRead}
+        (read : (st : State) → Stands s T seen c st → Says s T′ seen′ r (readLine n at st (part s at e))) where
+      said : {q : LineRead} → r ≡ q → SaysIn s T′ seen′ q (readLine n at (go .state) (part s at e))
+      said q = subst (λ (x : LineRead). SaysIn s T′ seen′ x (readLine n at (go .state) (part s at e))) q (read (go .state) (go .stands) .is)
+
+      pub going-refused : {T″ : Tables} {i k : ℕ} {a : SheetRead} → r ≡ line.Refused i k → a ≡ whole.Refused i k → Ends s T″ a (fromTop s)
+      going-refused q z = record { is = rw z (turn ∙ rw (said q)) }
+
+      pub going-on : {d : Progress} → r ≡ line.Kept d → Going s T′ seen′ d (n + 1) (e + 1)
+      going-on q =
+          let y = said q in
+          let z = line-ends in
+          let few = go .few in
+          record { state = y .0; stands = y .2; left = turn ∙ rw (y .1); ends = go .ends; within = omega arith; few = omega arith }
+
+  pub going-done : {T′ : Tables} {r : SheetRead} → length s ≤ at → ((st : State) → Stands s T seen c st → Ends s T′ r (ended n st)) → Ends s T′ r (fromTop s)
+  unfolding readLines
+  going-done l f = rw (go .left ∙ ap (readLines n at (go .state)) (lines-none s at l)) (f (go .state) (go .stands))
+
+-- ---- the outermost answer
 
 last-at : (d : ℕ) (s : List ℕ) → 0 < length s → last d s ≡ getD s (length s - 1) 0
 unfolding last
@@ -169,84 +231,31 @@ unfolding last
 last-none [] h = refl
 last-none (b ∷ s) h = absurd (omega arith)
 
-module _ (s : List ℕ) where
-  pub sheet-long : {T : Tables} {r : SheetRead} → 65536 < length s → r ≡ whole.Refused 1 0 → Ends s T r (readSheet s)
-  unfolding readSheet
-  sheet-long h z = record { is = rw z (rw (lt-ltb 65536 (length s) h)) }
-
-  module _ (l : length s ≤ 65536) where
-    pub sheet-empty : {T : Tables} {r : SheetRead} → length s ≡ 0 → r ≡ whole.Refused 2 0 → Ends s T r (readSheet s)
-    unfolding readSheet
-    sheet-empty h z = record { is = rw z (rw (le-ltb 65536 (length s) l, last-none s h)) }
-
-    module _ (h : length s ≡ 0 → ⊥) where
-      pub sheet-open : {T : Tables} {r : SheetRead} → (getD s (length s - 1) 0 ≡ 10 → ⊥) → r ≡ whole.Refused 2 0 → Ends s T r (readSheet s)
-      unfolding readSheet
-      sheet-open e z =
-          record { is = rw z (rw (le-ltb 65536 (length s) l, last-at 0 s (omega arith), ne-eqb (getD s (length s - 1) 0) 10 e)) }
-
-      begins : getD s (length s - 1) 0 ≡ 10 → readSheet s ≡ readLines 1 0 nothing (lines s)
-      unfolding readSheet
-      begins e = rw (le-ltb 65536 (length s) l, last-at 0 s (omega arith), eq-eqb (getD s (length s - 1) 0) 10 e)
-
-      pub going-start : {T : Tables} → getD s (length s - 1) 0 ≡ 10 → T ≡ blankTables
-          → Going s T (record { section = 0; valid = 0; features = 0; start = 0; moves = 0; stops = 0 }) 1 0
-      unfolding Means holds
-      going-start e b =
-          rw b
-          (record {
-            state = nothing;
-            stands = record {
-              section = refl;
-              validLine = refl;
-              start = refl;
-              valid = λ p k. empty-has p;
-              apart = tt;
-              filled = record { names = table-blank; moves = table-blank; moveGuards = table-blank; stops = table-blank; stopGuards = table-blank };
-            };
-            left = begins e;
-            ends = e;
-            within = omega arith;
-            few = omega arith;
-          })
-
-module _ {s : List ℕ} {T : Tables} {c : Progress} {n at : ℕ} (go : Going s T c n at) where
-  module _ (l : at < length s) {e : ℕ} (h : FirstAt s 10 at e) where
-    pub line-ends : (at ≤ e) × (e < length s)
-    line-ends = let z = first-there h l (go .ends) in (h .here z .0, z)
-
-    turn : readSheet s ≡ goOn (readLine n at (go .state) (part s at e)) (λ st. readLines (n + 1) (e + 1) st (lines (drop (e + 1) s)))
-    unfolding readLines
-    turn =
-        let z = line-ends in
-        let y : at + length (part s at e) + 1 ≡ e + 1 = omega (arith, part-length s at e (omega arith)) in
-        go .left ∙ ap (readLines n at (go .state)) (lines-more h (z .1)) ∙ rw y
-
-    module _ {T′ : Tables} {r : LineRead} (read : (st : State) → Stands s T c st → Says s T′ r (readLine n at st (part s at e))) where
-      said : {q : LineRead} → r ≡ q → SaysIn s T′ q (readLine n at (go .state) (part s at e))
-      said q = subst (λ (x : LineRead). SaysIn s T′ x (readLine n at (go .state) (part s at e))) q (read (go .state) (go .stands) .is)
-
-      pub going-refused : {T″ : Tables} {i k : ℕ} {a : SheetRead} → r ≡ line.Refused i k → a ≡ whole.Refused i k → Ends s T″ a (readSheet s)
-      going-refused q z = record { is = rw z (turn ∙ rw (said q)) }
-
-      pub going-on : {d : Progress} → r ≡ line.Kept d → Going s T′ d (n + 1) (e + 1)
-      going-on q =
-          let y = said q in
-          let z = line-ends in
-          let few = go .few in
-          record { state = y .0; stands = y .2; left = turn ∙ rw (y .1); ends = go .ends; within = omega arith; few = omega arith }
-
-  pub going-done : {T′ : Tables} {r : SheetRead} → length s ≤ at → ((st : State) → Stands s T c st → Ends s T′ r (ended n st)) → Ends s T′ r (readSheet s)
-  unfolding readLines
-  going-done l f = rw (go .left ∙ ap (readLines n at (go .state)) (lines-none s at l)) (f (go .state) (go .stands))
-
--- ---- the outermost answer
-
 ends-as : {s : List ℕ} {T : Tables} {a b : SheetRead} {x : Answer Sheet} → a ≡ b → Ends s T a x → EndsIn s T b x
 ends-as e h = rw e at (h .is)
 
-pub sheet-refused : {s : List ℕ} {T U : Tables} {a : SheetRead} {i k : ℕ} → Ends s T a (readSheet s) → a ≡ whole.Refused i k → U ≡ blankTables → ReadsSheet s U a
-sheet-refused h e b = rw e (ends-as e h, b)
+module _ (s : List ℕ) where
+  pub sheet-long : {T : Tables} {r : SheetRead} → T ≡ blankTables → 65536 < length s → r ≡ whole.Refused 1 0 → ReadsSheet s T r
+  unfolding readSheet
+  sheet-long b h z = rw z (rw (lt-ltb 65536 (length s) h), b)
 
-pub sheet-kept : {s : List ℕ} {T : Tables} {a : SheetRead} {c : Counts} → Ends s T a (readSheet s) → a ≡ whole.Kept c → ReadsSheet s T a
-sheet-kept h e = rw e (ends-as e h)
+  module _ (l : length s ≤ 65536) where
+    pub sheet-empty : {T : Tables} {r : SheetRead} → T ≡ blankTables → length s ≡ 0 → r ≡ whole.Refused 2 0 → ReadsSheet s T r
+    unfolding readSheet
+    sheet-empty b h z = rw z (rw (le-ltb 65536 (length s) l, last-none s h), b)
+
+    module _ (h : length s ≡ 0 → ⊥) where
+      pub sheet-open : {T : Tables} {r : SheetRead} → T ≡ blankTables → (getD s (length s - 1) 0 ≡ 10 → ⊥) → r ≡ whole.Refused 2 0 → ReadsSheet s T r
+      unfolding readSheet
+      sheet-open b e z = rw z (rw (le-ltb 65536 (length s) l, last-at 0 s (omega arith), ne-eqb (getD s (length s - 1) 0) 10 e), b)
+
+      module _ (e : getD s (length s - 1) 0 ≡ 10) where
+        begins : readSheet s ≡ fromTop s
+        unfolding readSheet
+        begins = rw (le-ltb 65536 (length s) l, last-at 0 s (omega arith), eq-eqb (getD s (length s - 1) 0) 10 e)
+
+        pub sheet-refused : {T U : Tables} {r : SheetRead} {i k : ℕ} → Ends s U r (fromTop s) → r ≡ whole.Refused i k → T ≡ blankTables → ReadsSheet s T r
+        sheet-refused f z b = rw z (begins ∙ ends-as z f, b)
+
+        pub sheet-kept : {T : Tables} {r : SheetRead} {c : Counts} → Ends s T r (fromTop s) → r ≡ whole.Kept c → ReadsSheet s T r
+        sheet-kept f z = let y = ends-as z f in rw z (y .0, begins ∙ y .1, y .2)

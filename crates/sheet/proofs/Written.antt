@@ -12,8 +12,8 @@ use Rattle.products.specs.declared.Found.the-variants.{Nothing}
 use Rattle.fields.specs.Bytes.{sameBytes, allNameBytes, isName, isAction}
 use Rattle.fields.specs.Cutting.{join, Clear, AllClear}
 use Rattle.fields.proofs.Cuts.{fields-joined}
-use Rattle.fields.proofs.Names.{name-names, action-names, names-clear}
-use Rattle.fields.proofs.States.{read-written}
+use Rattle.values.proofs.Names.{name-names, action-names, names-clear}
+use Rattle.values.proofs.States.{read-written}
 use Rattle.guards.specs.Guard.{Guard, print}
 use Rattle.guards.specs.Reading.{took, number, readWhole, GoodNames}
 use Rattle.guards.proofs.RoundTrip.{whole-printed}

@@ -1,5 +1,6 @@
 pub mod Sheet
 pub mod Reading
 pub mod Tables
+pub mod Inside
 pub mod Accepted
 pub mod Spelling

@@ -1,5 +1,4 @@
 -- What the code's tables and answers stand for: one relation between tables and sheet. Assumes nothing: these are definitions.
-use mathlib.Core.Bool.{Bool, true, false}
 use mathlib.Core.List.{List, [], _∷_}
 use mathlib.Core.Path.{_≡_}
 use Prim.Native.Nat.{ℕ, zero, suc, _+_, _≤_, _<_}
@@ -8,13 +7,10 @@ use Rattle.products.specs.Sets.{has, oneIf}
 use Rattle.fields.specs.Bytes.{part}
 use Rattle.guards.specs.Guard.{Guard, never, always, feature, neg, chain, choice, Means}
 use Rattle.sheet.specs.declared.Counts.{Counts}
-use Rattle.sheet.specs.declared.Progress.{Progress}
-use Rattle.sheet.specs.declared.LineRead.{LineRead}
-use Rattle.sheet.specs.declared.LineRead.the-variants as line
 use Rattle.sheet.specs.declared.SheetRead.{SheetRead}
 use Rattle.sheet.specs.declared.SheetRead.the-variants as whole
 use Rattle.sheet.specs.Sheet.{Feature, Move, Stop, Sheet, isValid}
-use Rattle.sheet.specs.Reading.{State, Answer, kept, refused, stopped, readSheet}
+use Rattle.sheet.specs.Reading.{kept, refused, readSheet}
 
 -- the six tables that a caller lends
 pub record Tables : Type 0 where
@@ -76,28 +72,6 @@ pub record Filled (s : List ℕ) (T : Tables) (f k d : ℕ) (fs : List Feature) 
   pub stops : Table StopRow (replicate 2 0) 64 (T .stops) d ds
   pub stopGuards : Table (λ set d. Means set (d .guard)) (replicate 16 0) 64 (T .stopGuards) d ds
 
--- states below 64, none twice
-abbrev pub Apart : List Stop → Type 0
-Apart [] = Unit {0}
-Apart (d ∷ ds) = (d .state < 64) × (stopped (d .state) ds ≡ false) × Apart ds
-
--- while the lines are read
-pub record Stands (s : List ℕ) (T : Tables) (c : Progress) (st : State) : Type 0 where
-  pub section : c .section ≡ st .section
-  pub validLine : c .valid ≡ st .validLine
-  pub start : c .start ≡ st .sheet .start
-  pub valid : Means (T .valid) (st .sheet .valid)
-  pub apart : Apart (st .sheet .stops)
-  pub filled : Filled s T (c .features) (c .moves) (c .stops) (st .sheet .features) (st .sheet .moves) (st .sheet .stops)
-
--- a line reader's answer, with the tables as they are then, is this answer of the definition
-abbrev pub SaysIn : List ℕ → Tables → LineRead → Answer State → Type 0
-SaysIn s T (line.Kept c) a = (st : State) × (a ≡ kept st) × Stands s T c st
-SaysIn s T (line.Refused e n) a = a ≡ refused e n
-
-pub record Says (s : List ℕ) (T : Tables) (r : LineRead) (a : Answer State) : Type 0 where
-  pub is : SaysIn s T r a
-
 -- ---- what the outermost reader promises
 
 -- the tables stand for the sheet r: the set `valid` has exactly the valid products
@@ -105,14 +79,6 @@ pub record StandsFor (s : List ℕ) (T : Tables) (c : Counts) (r : Sheet) : Type
   pub start : c .start ≡ r .start
   pub valid : (p : ℕ) → p < 1024 → has (T .valid) p ≡ oneIf (isValid r p)
   pub filled : Filled s T (c .features) (c .moves) (c .stops) (r .features) (r .moves) (r .stops)
-
--- the answer at the end of the lines, with the tables as they are then, is this answer of the definition
-abbrev pub EndsIn : List ℕ → Tables → SheetRead → Answer Sheet → Type 0
-EndsIn s T (whole.Kept c) a = (r : Sheet) × (a ≡ kept r) × StandsFor s T c r
-EndsIn s T (whole.Refused e n) a = a ≡ refused e n
-
-pub record Ends (s : List ℕ) (T : Tables) (r : SheetRead) (a : Answer Sheet) : Type 0 where
-  pub is : EndsIn s T r a
 
 -- no row of any table
 abbrev pub blankTables : Tables

@@ -5,10 +5,12 @@ mod row;
 
 ghost use mathlib.Core.Path.{_≡_};
 ghost use mathlib.Core.List.{List};
-ghost use Prim.Native.Nat.{ℕ, _+_, _≤_, _<_};
-ghost use lib.ListN.{length};
-ghost use Rattle.sheet.specs.Reading.{State, readSheet, ended};
-ghost use Rattle.sheet.specs.Tables.{tables, blankTables, Stands, Ends, ReadsSheet};
+ghost use Prim.Native.Nat.{ℕ, _+_, _-_, _≤_, _<_};
+ghost use lib.ListN.{length, getD};
+ghost use Rattle.fields.specs.Cutting.{lines};
+ghost use Rattle.sheet.specs.Reading.{State, ended, readLines, nothing};
+ghost use Rattle.sheet.specs.Tables.{tables, blankTables, ReadsSheet};
+ghost use Rattle.sheet.specs.Inside.{Stands, Ends};
 use line::read_line;
 use products::Found;
 
@@ -42,6 +44,19 @@ pub enum LineRead {
     Refused { number: u8, line: usize },
 }
 
+// Where a line stands in the text, from `at` up to `end`, and its number.
+pub struct LinePlace {
+    pub at: usize,
+    pub end: usize,
+    pub number: usize,
+}
+
+// A move's states, where its from, action and to are good.
+pub enum Triple {
+    Good { from: usize, to: usize },
+    Bad,
+}
+
 // What a line is, by its word and the section reached.
 pub enum LineKind {
     Fts,
@@ -73,7 +88,32 @@ pub fn read_sheet(
     ensures { λ r. ⌜ ReadsSheet (now (text .entry)) (tables (now (names .exit)) (now (valid .exit)) (now (moves .exit)) (now («move_guards» .exit)) (now (stops .exit)) (now («stop_guards» .exit))) r ⌝ }
 {
     clear(names, valid, moves, move_guards, stops, stop_guards);
-    let r = read_all(text, names, valid, moves, move_guards, stops, stop_guards);
+    read_blank(text, names, valid, moves, move_guards, stops, stop_guards)
+}
+
+// The same for tables that are blank already.
+pub fn read_blank(
+    text: &[u8],
+    names: &mut [[usize; 2]; 10],
+    valid: &mut [u64; 16],
+    moves: &mut [[usize; 6]; 256],
+    move_guards: &mut [[u64; 16]; 256],
+    stops: &mut [[usize; 2]; 64],
+    stop_guards: &mut [[u64; 16]; 64],
+) -> SheetRead
+    requires { ⌜ tables (now names) (now valid) (now moves) (now «move_guards») (now stops) (now «stop_guards») ≡ blankTables ⌝ }
+    ensures { λ r. ⌜ ReadsSheet (now (text .entry)) (tables (now (names .exit)) (now (valid .exit)) (now (moves .exit)) (now («move_guards» .exit)) (now (stops .exit)) (now («stop_guards» .exit))) r ⌝ }
+{
+    if MOST_BYTES < text.len() {
+        return refuse_sheet(1, 0);
+    }
+    if text.len() == 0 {
+        return refuse_sheet(2, 0);
+    }
+    if text[text.len() - 1] != LINE_END {
+        return refuse_sheet(2, 0);
+    }
+    let r = read_lines(text, names, valid, moves, move_guards, stops, stop_guards);
     let SheetRead::Kept(_) = r else {
         clear(names, valid, moves, move_guards, stops, stop_guards);
         return r;
@@ -106,8 +146,9 @@ fn refuse_sheet(number: u8, line: usize) -> SheetRead
     SheetRead::Refused { number, line }
 }
 
-// Reads all lines into blank tables; what a refusal leaves in them is not said.
-fn read_all(
+// Reads all lines into blank tables; what a refusal leaves in them is not said. `seen` has the marks by
+// which repeats are told.
+fn read_lines(
     text: &[u8],
     names: &mut [[usize; 2]; 10],
     valid: &mut [u64; 16],
@@ -116,35 +157,19 @@ fn read_all(
     stops: &mut [[usize; 2]; 64],
     stop_guards: &mut [[u64; 16]; 64],
 ) -> SheetRead
-    requires { ⌜ tables (now names) (now valid) (now moves) (now «move_guards») (now stops) (now «stop_guards») ≡ blankTables ⌝ }
-    ensures { λ r. ⌜ Ends (now (text .entry)) (tables (now (names .exit)) (now (valid .exit)) (now (moves .exit)) (now («move_guards» .exit)) (now (stops .exit)) (now («stop_guards» .exit))) r (readSheet (now (text .entry))) ⌝ }
+    requires { ⌜ (tables (now names) (now valid) (now moves) (now «move_guards») (now stops) (now «stop_guards») ≡ blankTables) × (getD (now text) (length (now text) - 1) 0 ≡ 10) ⌝ }
+    ensures { λ r. ⌜ Ends (now (text .entry)) (tables (now (names .exit)) (now (valid .exit)) (now (moves .exit)) (now («move_guards» .exit)) (now (stops .exit)) (now («stop_guards» .exit))) r (readLines 1 0 nothing (lines (now (text .entry)))) ⌝ }
 {
-    if MOST_BYTES < text.len() {
-        return refuse_sheet(1, 0);
-    }
-    if text.len() == 0 {
-        return refuse_sheet(2, 0);
-    }
-    if text[text.len() - 1] != LINE_END {
-        return refuse_sheet(2, 0);
-    }
-    let mut c = Progress {
-        section: 0,
-        valid: 0,
-        features: 0,
-        start: 0,
-        moves: 0,
-        stops: 0,
-    };
+    let mut seen = [0u8; 2048];
+    let mut c = no_lines();
     let mut at = 0;
-    let mut line = 1;
+    let mut number = 1;
     while at < text.len() {
-        let e = fields::find(text, LINE_END, at);
+        let end = fields::find(text, LINE_END, at);
+        let place = LinePlace { at, end, number };
         let r = read_line(
             text,
-            at,
-            e,
-            line,
+            place,
             c,
             names,
             valid,
@@ -152,15 +177,30 @@ fn read_all(
             move_guards,
             stops,
             stop_guards,
+            &mut seen,
         );
         let LineRead::Kept(next) = r else {
             return pass_up(r);
         };
         c = next;
-        at = e + 1;
-        line += 1;
+        at = end + 1;
+        number += 1;
     }
-    finish(c, line, valid)
+    finish(c, number, valid)
+}
+
+// Before the first line.
+fn no_lines() -> Progress
+    ensures { λ r. ⌜ r ≡ record { section = 0; valid = 0; features = 0; start = 0; moves = 0; stops = 0 } ⌝ }
+{
+    Progress {
+        section: 0,
+        valid: 0,
+        features: 0,
+        start: 0,
+        moves: 0,
+        stops: 0,
+    }
 }
 
 // A line's refusal as the sheet's, unchanged.
@@ -176,7 +216,7 @@ fn pass_up(r: LineRead) -> SheetRead
 // The end of the sheet, behind its last line: `line` is the number of the line that would follow. The
 // set of valid products is cut down to the products of this sheet's features.
 fn finish(c: Progress, line: usize, valid: &mut [u64; 16]) -> SheetRead
-    ensures { λ r. ⌜ ((s : List ℕ) (n m g t h : List (List ℕ)) (st : State) → Stands s (tables n (now (valid .entry)) m g t h) c st → Ends s (tables n (now (valid .exit)) m g t h) r (ended line st)) ⌝ }
+    ensures { λ r. ⌜ ((s : List ℕ) (n m g t h : List (List ℕ)) (seen : List ℕ) (st : State) → Stands s (tables n (now (valid .entry)) m g t h) seen c st → Ends s (tables n (now (valid .exit)) m g t h) r (ended line st)) ⌝ }
 {
     let section = c.section;
     if section < 3 {
@@ -184,7 +224,7 @@ fn finish(c: Progress, line: usize, valid: &mut [u64; 16]) -> SheetRead
     }
     let held = *valid;
     let allowed = products::both(held, products::all(c.features));
-    let f = products::least(allowed);
+    let f = members::least(allowed);
     let Found::At(_) = f else {
         return refuse_sheet(10, c.valid);
     };

@@ -9,12 +9,15 @@ ghost use Rattle.products.specs.Sets.{oneIf};
 ghost use Rattle.fields.specs.Bytes.{part, sameBytes};
 ghost use Rattle.fields.specs.Cutting.{fields, asOne, asTwo, asFour};
 ghost use Rattle.sheet.specs.Reading.{State, kindIn, ftsLine, featureLine, validLine, startLine, guardedMove, moveLine, stopLine, readLine};
-ghost use Rattle.sheet.specs.Tables.{Tables, tables, Lies, Stands, Says};
+ghost use Rattle.sheet.specs.Tables.{Tables, tables, Lies};
+ghost use Rattle.sheet.specs.Inside.{Tripled, Stands, Says};
 use super::LineKind;
+use super::LinePlace;
 use super::LineRead;
 use super::Progress;
-use super::row::has_move;
+use super::Triple;
 use super::row::has_stop;
+use super::row::is_repeat;
 use fields::FourFields;
 use fields::Number;
 use fields::TwoFields;
@@ -29,12 +32,10 @@ const MOST_MOVES: usize = 256;
 
 const MOST_STOPS: usize = 64;
 
-// The line that stands from `at` up to `e`, the line `line`, after what c says.
+// The line at a place, after what c says.
 pub(crate) fn read_line(
     text: &[u8],
-    at: usize,
-    e: usize,
-    line: usize,
+    place: LinePlace,
     c: Progress,
     names: &mut [[usize; 2]; 10],
     valid: &mut [u64; 16],
@@ -42,11 +43,15 @@ pub(crate) fn read_line(
     move_guards: &mut [[u64; 16]; 256],
     stops: &mut [[usize; 2]; 64],
     stop_guards: &mut [[u64; 16]; 64],
+    seen: &mut [u8; 2048],
 ) -> LineRead
-    requires { ⌜ (at ≤ e) × (e ≤ length (now text)) ⌝ }
-    ensures { λ r. ⌜ ((st : State) → Stands (now (text .entry)) (tables (now (names .entry)) (now (valid .entry)) (now (moves .entry)) (now («move_guards» .entry)) (now (stops .entry)) (now («stop_guards» .entry))) c st → Says (now (text .entry)) (tables (now (names .exit)) (now (valid .exit)) (now (moves .exit)) (now («move_guards» .exit)) (now (stops .exit)) (now («stop_guards» .exit))) r (readLine line at st (part (now (text .entry)) at e))) ⌝ }
+    requires { ⌜ (place .at ≤ place .end) × (place .end ≤ length (now text)) ⌝ }
+    ensures { λ r. ⌜ ((st : State) → Stands (now (text .entry)) (tables (now (names .entry)) (now (valid .entry)) (now (moves .entry)) (now («move_guards» .entry)) (now (stops .entry)) (now («stop_guards» .entry))) (now (seen .entry)) c st → Says (now (text .entry)) (tables (now (names .exit)) (now (valid .exit)) (now (moves .exit)) (now («move_guards» .exit)) (now (stops .exit)) (now («stop_guards» .exit))) (now (seen .exit)) r (readLine (place .number) (place .at) st (part (now (text .entry)) (place .at) (place .end)))) ⌝ }
 {
-    let l = &text[at..e];
+    let at = place.at;
+    let end = place.end;
+    let line = place.number;
+    let l = &text[at..end];
     let w = fields::find(l, TAB, 0);
     if l.len() <= w {
         return refuse(3, line);
@@ -59,7 +64,7 @@ pub(crate) fn read_line(
         LineKind::Feature => read_feature(text, rest, next, line, c, names),
         LineKind::Valid => read_valid(text, rest, line, c, names, valid),
         LineKind::Start => read_start(rest, line, c),
-        LineKind::Move => read_move(text, rest, next, line, c, names, moves, move_guards),
+        LineKind::Move => read_move(text, rest, next, line, c, names, moves, move_guards, seen),
         LineKind::Stop => read_stop(text, rest, line, c, names, stops, stop_guards),
         LineKind::Misplaced => refuse(3, line),
     }
@@ -108,9 +113,9 @@ fn refuse(number: u8, line: usize) -> LineRead
 }
 
 fn read_fts(rest: &[u8], line: usize, c: Progress) -> LineRead
-    ensures { λ r. ⌜ ((s : List ℕ) (T : Tables) (st : State) → Stands s T c st → Says s T r (ftsLine line st (asOne (fields (now (rest .entry)))))) ⌝ }
+    ensures { λ r. ⌜ ((s : List ℕ) (T : Tables) (seen : List ℕ) (st : State) → Stands s T seen c st → Says s T seen r (ftsLine line st (asOne (fields (now (rest .entry)))))) ⌝ }
 {
-    if !fields::is_one(rest) {
+    if !cutting::is_one(rest) {
         return refuse(3, line);
     }
     if !fields::same_bytes(rest, b"1") {
@@ -135,16 +140,16 @@ fn read_feature(
     names: &mut [[usize; 2]; 10],
 ) -> LineRead
     requires { ⌜ at + length (now rest) ≤ length (now text) ⌝ }
-    ensures { λ r. ⌜ ((v : List ℕ) (m g t h : List (List ℕ)) (st : State) → Stands (now (text .entry)) (tables (now (names .entry)) v m g t h) c st → Lies (now (text .entry)) (now (rest .entry)) at → Says (now (text .entry)) (tables (now (names .exit)) v m g t h) r (featureLine line at st (asOne (fields (now (rest .entry)))))) ⌝ }
+    ensures { λ r. ⌜ ((v : List ℕ) (m g t h : List (List ℕ)) (seen : List ℕ) (st : State) → Stands (now (text .entry)) (tables (now (names .entry)) v m g t h) seen c st → Lies (now (text .entry)) (now (rest .entry)) at → Says (now (text .entry)) (tables (now (names .exit)) v m g t h) seen r (featureLine line at st (asOne (fields (now (rest .entry)))))) ⌝ }
 {
-    if !fields::is_one(rest) {
+    if !cutting::is_one(rest) {
         return refuse(3, line);
     }
     let k = c.features;
     if MOST_FEATURES <= k {
         return refuse(8, line);
     }
-    if !fields::is_name(rest) {
+    if !values::is_name(rest) {
         return refuse(4, line);
     }
     let f = guards::find_name(text, names, k, rest);
@@ -170,9 +175,9 @@ fn read_valid(
     names: &[[usize; 2]; 10],
     valid: &mut [u64; 16],
 ) -> LineRead
-    ensures { λ r. ⌜ ((m g t h : List (List ℕ)) (st : State) → Stands (now (text .entry)) (tables (now (names .entry)) (now (valid .entry)) m g t h) c st → Says (now (text .entry)) (tables (now (names .entry)) (now (valid .exit)) m g t h) r (validLine line st (asOne (fields (now (rest .entry)))))) ⌝ }
+    ensures { λ r. ⌜ ((m g t h : List (List ℕ)) (seen : List ℕ) (st : State) → Stands (now (text .entry)) (tables (now (names .entry)) (now (valid .entry)) m g t h) seen c st → Says (now (text .entry)) (tables (now (names .entry)) (now (valid .exit)) m g t h) seen r (validLine line st (asOne (fields (now (rest .entry)))))) ⌝ }
 {
-    if !fields::is_one(rest) {
+    if !cutting::is_one(rest) {
         return refuse(3, line);
     }
     let g = guards::read_whole(text, names, c.features, rest);
@@ -193,12 +198,12 @@ fn read_valid(
 }
 
 fn read_start(rest: &[u8], line: usize, c: Progress) -> LineRead
-    ensures { λ r. ⌜ ((s : List ℕ) (T : Tables) (st : State) → Stands s T c st → Says s T r (startLine line st (asOne (fields (now (rest .entry)))))) ⌝ }
+    ensures { λ r. ⌜ ((s : List ℕ) (T : Tables) (seen : List ℕ) (st : State) → Stands s T seen c st → Says s T seen r (startLine line st (asOne (fields (now (rest .entry)))))) ⌝ }
 {
-    if !fields::is_one(rest) {
+    if !cutting::is_one(rest) {
         return refuse(3, line);
     }
-    let q = fields::read_state(rest);
+    let q = values::read_state(rest);
     let Number::Of(start) = q else {
         return refuse(4, line);
     };
@@ -231,27 +236,20 @@ fn read_move(
     names: &[[usize; 2]; 10],
     moves: &mut [[usize; 6]; 256],
     move_guards: &mut [[u64; 16]; 256],
+    seen: &mut [u8; 2048],
 ) -> LineRead
     requires { ⌜ at + length (now rest) ≤ length (now text) ⌝ }
-    ensures { λ r. ⌜ ((v : List ℕ) (t h : List (List ℕ)) (st : State) → Stands (now (text .entry)) (tables (now (names .entry)) v (now (moves .entry)) (now («move_guards» .entry)) t h) c st → Lies (now (text .entry)) (now (rest .entry)) at → Says (now (text .entry)) (tables (now (names .entry)) v (now (moves .exit)) (now («move_guards» .exit)) t h) r (moveLine line at st (asFour (fields (now (rest .entry)))))) ⌝ }
+    ensures { λ r. ⌜ ((v : List ℕ) (t h : List (List ℕ)) (st : State) → Stands (now (text .entry)) (tables (now (names .entry)) v (now (moves .entry)) (now («move_guards» .entry)) t h) (now (seen .entry)) c st → Lies (now (text .entry)) (now (rest .entry)) at → Says (now (text .entry)) (tables (now (names .entry)) v (now (moves .exit)) (now («move_guards» .exit)) t h) (now (seen .exit)) r (moveLine line at st (asFour (fields (now (rest .entry)))))) ⌝ }
 {
-    let cut = fields::cut_four(rest);
+    let cut = cutting::cut_four(rest);
     let FourFields::Ends { b, c: m, d } = cut else {
         return refuse(3, line);
     };
-    let k = c.moves;
-    if MOST_MOVES <= k {
+    if MOST_MOVES <= c.moves {
         return refuse(8, line);
     }
-    let f = fields::read_state(&rest[0..b]);
-    let Number::Of(from) = f else {
-        return refuse(4, line);
-    };
-    if !fields::is_action(&rest[b + 1..m]) {
-        return refuse(4, line);
-    }
-    let o = fields::read_state(&rest[m + 1..d]);
-    let Number::Of(to) = o else {
+    let t = read_triple(&rest[0..b], &rest[b + 1..m], &rest[m + 1..d]);
+    let Triple::Good { from, to } = t else {
         return refuse(4, line);
     };
     keep_move(
@@ -266,7 +264,29 @@ fn read_move(
         names,
         moves,
         move_guards,
+        seen,
     )
+}
+
+// The fields from, action and to of a move.
+fn read_triple(from: &[u8], action: &[u8], to: &[u8]) -> Triple
+    ensures { λ r. ⌜ Tripled (now (from .entry)) (now (action .entry)) (now (to .entry)) r ⌝ }
+{
+    let f = values::read_state(from);
+    let Number::Of(first) = f else {
+        return Triple::Bad;
+    };
+    if !values::is_action(action) {
+        return Triple::Bad;
+    }
+    let o = values::read_state(to);
+    let Number::Of(second) = o else {
+        return Triple::Bad;
+    };
+    Triple::Good {
+        from: first,
+        to: second,
+    }
 }
 
 // A move whose states and action are good: its guard, then whether it is a repeat, then its row.
@@ -282,9 +302,10 @@ fn keep_move(
     names: &[[usize; 2]; 10],
     moves: &mut [[usize; 6]; 256],
     move_guards: &mut [[u64; 16]; 256],
+    seen: &mut [u8; 2048],
 ) -> LineRead
     requires { ⌜ (place + length (now action) ≤ length (now text)) × (c .moves < 256) ⌝ }
-    ensures { λ r. ⌜ ((v : List ℕ) (t h : List (List ℕ)) (st : State) → Stands (now (text .entry)) (tables (now (names .entry)) v (now (moves .entry)) (now («move_guards» .entry)) t h) c st → Lies (now (text .entry)) (now (action .entry)) place → Says (now (text .entry)) (tables (now (names .entry)) v (now (moves .exit)) (now («move_guards» .exit)) t h) r (guardedMove line st from (now (action .entry)) place to (now (guard .entry)))) ⌝ }
+    ensures { λ r. ⌜ ((v : List ℕ) (t h : List (List ℕ)) (st : State) → Stands (now (text .entry)) (tables (now (names .entry)) v (now (moves .entry)) (now («move_guards» .entry)) t h) (now (seen .entry)) c st → Lies (now (text .entry)) (now (action .entry)) place → Says (now (text .entry)) (tables (now (names .entry)) v (now (moves .exit)) (now («move_guards» .exit)) t h) (now (seen .exit)) r (guardedMove line st from (now (action .entry)) place to (now (guard .entry)))) ⌝ }
 {
     let g = guards::read_whole(text, names, c.features, guard);
     let read = g.read;
@@ -292,7 +313,7 @@ fn keep_move(
         return refuse(number, line);
     }
     let k = c.moves;
-    if has_move(text, moves, k, from, action, to) {
+    if is_repeat(text, moves, k, seen, from, action, to) {
         return refuse(9, line);
     }
     moves[k] = [line, from, place, place + action.len(), to, plain(guard)];
@@ -318,13 +339,13 @@ fn read_stop(
     stops: &mut [[usize; 2]; 64],
     stop_guards: &mut [[u64; 16]; 64],
 ) -> LineRead
-    ensures { λ r. ⌜ ((v : List ℕ) (m g : List (List ℕ)) (st : State) → Stands (now (text .entry)) (tables (now (names .entry)) v m g (now (stops .entry)) (now («stop_guards» .entry))) c st → Says (now (text .entry)) (tables (now (names .entry)) v m g (now (stops .exit)) (now («stop_guards» .exit))) r (stopLine line st (asTwo (fields (now (rest .entry)))))) ⌝ }
+    ensures { λ r. ⌜ ((v : List ℕ) (m g : List (List ℕ)) (seen : List ℕ) (st : State) → Stands (now (text .entry)) (tables (now (names .entry)) v m g (now (stops .entry)) (now («stop_guards» .entry))) seen c st → Says (now (text .entry)) (tables (now (names .entry)) v m g (now (stops .exit)) (now («stop_guards» .exit))) seen r (stopLine line st (asTwo (fields (now (rest .entry)))))) ⌝ }
 {
-    let cut = fields::cut_two(rest);
+    let cut = cutting::cut_two(rest);
     let TwoFields::Parted(b) = cut else {
         return refuse(3, line);
     };
-    let q = fields::read_state(&rest[0..b]);
+    let q = values::read_state(&rest[0..b]);
     let Number::Of(state) = q else {
         return refuse(4, line);
     };
@@ -343,12 +364,21 @@ fn read_stop(
     stops[k] = [line, state];
     let set = g.set;
     stop_guards[k] = set;
-    LineRead::Kept(Progress {
+    let next = with_stop(c);
+    LineRead::Kept(next)
+}
+
+// One stop more.
+fn with_stop(c: Progress) -> Progress
+    requires { ⌜ c .stops < 64 ⌝ }
+    ensures { λ r. ⌜ r ≡ record { section = 4; valid = c .valid; features = c .features; start = c .start; moves = c .moves; stops = c .stops + 1 } ⌝ }
+{
+    Progress {
         section: 4,
         valid: c.valid,
         features: c.features,
         start: c.start,
         moves: c.moves,
-        stops: k + 1,
-    })
+        stops: c.stops + 1,
+    }
 }

@@ -1,21 +1,52 @@
 // The rows of moves and stops that were read: whether a triple or a state has come already. Rows are
-// looked through from the last back.
+// looked through from the last back; those of moves only where the triple's place has a mark.
 ghost use mathlib.Core.Path.{_≡_};
 ghost use mathlib.Core.List.{List};
-ghost use Prim.Native.Nat.{ℕ, min};
+ghost use Prim.Native.Nat.{ℕ, _+_, _*_, _%_, _<_, min};
 ghost use lib.ListN.{getD};
 ghost use Rattle.sheet.specs.Sheet.{Move, Stop};
 ghost use Rattle.sheet.specs.Reading.{isMove, moved, stopped};
 ghost use Rattle.sheet.specs.Tables.{Rows, MoveRow, StopRow};
+ghost use Rattle.sheet.specs.Inside.{placeOf, Marked, Tells};
 
-// The smaller of the two.
-fn at_most(count: usize, most: usize) -> usize
-    ensures { λ r. ⌜ r ≡ min count most ⌝ }
+// Whether one of the first `count` moves has this from, action and to; leaves a mark at their place.
+pub(crate) fn is_repeat(
+    text: &[u8],
+    moves: &[[usize; 6]; 256],
+    count: usize,
+    seen: &mut [u8; 2048],
+    from: usize,
+    action: &[u8],
+    to: usize,
+) -> bool
+    ensures { λ r. ⌜ ((ms : List Move) → Rows (λ i m. MoveRow (now (text .entry)) (getD (now (moves .entry)) i List.[]) m) (min count 256) ms → Marked (now (seen .entry)) ms → Tells (now (seen .exit)) from (now (action .entry)) to ms r) ⌝ }
 {
-    if most < count {
-        return most;
+    let h = place_of(from, action, to);
+    if seen[h] == 0 {
+        seen[h] = 1;
+        return false;
     }
-    count
+    has_move(text, moves, count, from, action, to)
+}
+
+// Where a triple has its mark.
+fn place_of(from: usize, action: &[u8], to: usize) -> usize
+    ensures { λ r. ⌜ r ≡ placeOf from (now (action .entry)) to ⌝ }
+{
+    let mut h = from % 32 * 64 + to % 64;
+    let mut i = action.len();
+    while 0 < i {
+        i -= 1;
+        h = mix(h, action[i]);
+    }
+    h
+}
+
+fn mix(h: usize, b: u8) -> usize
+    requires { ⌜ h < 2048 ⌝ }
+    ensures { λ r. ⌜ r ≡ (h * 37 + b) % 2048 ⌝ }
+{
+    (h * 37 + b as usize) % 2048
 }
 
 // Whether a move's row has this from, action and to.
@@ -34,7 +65,7 @@ fn is_move(text: &[u8], row: [usize; 6], from: usize, action: &[u8], to: usize) 
 }
 
 // Whether one of the first `count` moves has this from, action and to.
-pub(crate) fn has_move(
+fn has_move(
     text: &[u8],
     moves: &[[usize; 6]; 256],
     count: usize,
@@ -44,7 +75,7 @@ pub(crate) fn has_move(
 ) -> bool
     ensures { λ r. ⌜ ((ms : List Move) → Rows (λ i m. MoveRow (now (text .entry)) (getD (now (moves .entry)) i List.[]) m) (min count 256) ms → r ≡ moved from (now (action .entry)) to ms) ⌝ }
 {
-    let mut i = at_most(count, 256);
+    let mut i = counts::at_most(count, 256);
     while 0 < i {
         i -= 1;
         let row = moves[i];
@@ -59,7 +90,7 @@ pub(crate) fn has_move(
 pub(crate) fn has_stop(stops: &[[usize; 2]; 64], count: usize, state: usize) -> bool
     ensures { λ r. ⌜ ((ds : List Stop) → Rows (λ i d. StopRow (getD (now (stops .entry)) i List.[]) d) (min count 64) ds → r ≡ stopped state ds) ⌝ }
 {
-    let mut i = at_most(count, 64);
+    let mut i = counts::at_most(count, 64);
     while 0 < i {
         i -= 1;
         let row = stops[i];

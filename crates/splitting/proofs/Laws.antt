@@ -27,7 +27,7 @@ and-right true b e = e
 and-right false true e = refl
 and-right false false e = e
 
-alike-eq : (a b : Bool) → alike a b ≡ true → a ≡ b
+pub alike-eq : (a b : Bool) → alike a b ≡ true → a ≡ b
 alike-eq true true e = refl
 alike-eq true false e = sym e
 alike-eq false true e = e
@@ -53,7 +53,7 @@ unfolding all
 all-true t zero h = refl
 all-true t (suc n) h = rw (all-true t n (λ k l. h k (omega arith)), h n (omega arith)) refl
 
-all-ext : (t u : ℕ → Bool) (n : ℕ) → ((k : ℕ) → k < n → t k ≡ u k) → all t n ≡ all u n
+pub all-ext : (t u : ℕ → Bool) (n : ℕ) → ((k : ℕ) → k < n → t k ≡ u k) → all t n ≡ all u n
 unfolding all
 all-ext t u zero h = refl
 all-ext t u (suc n) h = ap₂ _&&_ (all-ext t u n (λ k l. h k (omega arith))) (h n (omega arith))
@@ -191,12 +191,3 @@ guard-full zero i f h = rw (h 0 (omega arith)) refl
 guard-full (suc k) i f h =
     let e : free f k ≡ true = free-of f k (λ q l. h (2 * q + 1) (high k q l) ∙ sym (h (2 * q) (low k q l))) in
     rw e (guard-full k (suc i) (without f) (λ q l. h (2 * q) (low k q l)))
-
--- and only these
-pub guard-full-back : (n : ℕ) (f : ℕ → Bool) → guardOf 0 n f ≡ always → (p : ℕ) → p < 2 ^ n → f p ≡ true
-unfolding holds
-guard-full-back n f e p l = sym (means-all n f p l) ∙ ap (λ (g : Guard). holds g p) e
-
-pub guard-empty-back : (n : ℕ) (f : ℕ → Bool) → guardOf 0 n f ≡ never → (p : ℕ) → p < 2 ^ n → f p ≡ false
-unfolding holds
-guard-empty-back n f e p l = sym (means-all n f p l) ∙ ap (λ (g : Guard). holds g p) e

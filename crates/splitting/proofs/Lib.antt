@@ -1,5 +1,5 @@
 pub mod Laws
-pub mod Decided
+pub mod Marks
 pub mod Halving
 pub mod Returns
 pub mod Determined

@@ -3,9 +3,9 @@
 use mathlib.Core.Bool.{Bool, true, false, cond, not, _&&_}
 use mathlib.Core.List.{List, [], _∷_}
 use mathlib.Core.Path.{_≡_}
-use Prim.Native.Nat.{ℕ, zero, suc, _+_, _*_, _/_, _^_, _<_, _≤_}
+use Prim.Native.Nat.{ℕ, zero, suc, _+_, _*_, _-_, _^_, _<_, _≤_}
 use lib.Dec.{eqb}
-use Rattle.products.specs.Sets.{has}
+use Rattle.products.specs.Sets.{bit, has}
 use Rattle.guards.specs.Guard.{Guard, never, always, feature, choice, holds}
 
 -- whether the set has a product
@@ -46,10 +46,30 @@ pub record Writes (n : ℕ) (P : ℕ → Type 0) (g : Guard) : Type 0 where
 
 -- ---- what the recursion works on
 
--- the set speaks of the first n features, and depends on none before feature i
-pub record Carried (n i : ℕ) (set : List ℕ) : Type 0 where
-  pub later : (p : ℕ) → p < 1024 → has set p ≡ has set (p / 2 ^ i * 2 ^ i)
+-- the set has only products of the first n features
+pub record Within (n : ℕ) (set : List ℕ) : Type 0 where
   pub few : (p : ℕ) → p < 1024 → 2 ^ n ≤ p → has set p ≡ 0
+
+-- among the products whose first i features make the number c, the set does not depend on feature i
+abbrev pub freeOf : List ℕ → ℕ → ℕ → Bool
+freeOf set i c = free (λ q. inSet set (c + q * 2 ^ i)) (9 - i)
+
+-- the table t tells on which features the set depends: bit 2 ^ i + c is 0 exactly if, by the number c of the earlier ones, it does not depend on feature i
+pub record Tells (set t : List ℕ) : Type 0 where
+  pub tells : (i c : ℕ) → i < 10 → c < 2 ^ i → eqb (has t (2 ^ i + c)) 0 ≡ freeOf set i c
+
+-- x is word w of such a table
+pub record Word (set : List ℕ) (w x : ℕ) : Type 0 where
+  pub tells : (i c k : ℕ) → i < 10 → c < 2 ^ i → k < 64 → 2 ^ i + c ≡ w * 64 + k → eqb (bit x k) 0 ≡ freeOf set i c
+
+-- the first bits of x are what such a table has for feature i
+pub record Level (set : List ℕ) (i x : ℕ) : Type 0 where
+  pub tells : (c : ℕ) → c < 2 ^ i → eqb (bit x c) 0 ≡ freeOf set i c
+
+-- j is the first feature from i on that the table marks for the number c, or n where it marks none before n
+pub record First (t : List ℕ) (n i c j : ℕ) : Type 0 where
+  pub passed : (k : ℕ) → i ≤ k → k < j → inSet t (2 ^ k + c) ≡ false
+  pub marked : j < n → inSet t (2 ^ j + c) ≡ true
 
 abbrev pub leafText : Bool → List ℕ
 leafText true = 49 ∷ []

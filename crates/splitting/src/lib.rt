@@ -1,16 +1,13 @@
 // A set of products written as a guard: `0`, `1`, or split on the first feature on which it depends.
 // Nothing here knows what the set stands for.
-mod halves;
+mod dependence;
 
-ghost use mathlib.Core.Path.{_≡_};
 ghost use mathlib.Core.List.{List};
-ghost use Prim.Native.Nat.{ℕ, _-_, _*_, _^_, min};
+ghost use Prim.Native.Nat.{_+_, _-_, _*_, _^_, _<_, _≤_, min};
 ghost use Rattle.text.specs.Text.{Wrote};
 ghost use Rattle.guards.specs.Guard.{print};
 ghost use Rattle.guards.specs.Reading.{namesOf};
-ghost use Rattle.splitting.specs.Splitting.{inSet, guardOf, Carried, leafText};
-use halves::absent;
-use halves::present;
+ghost use Rattle.splitting.specs.Splitting.{inSet, guardOf, Within, Tells, leafText};
 
 // Lays the guard of the set's products of the first `count` features; the places of their names in
 // `text` are the rows of `names`.
@@ -24,22 +21,14 @@ pub fn put_guard(
 ) -> usize
     ensures { λ r. ⌜ Wrote (now (room .entry)) at (print (guardOf 0 (min count 10) (inSet set)) (namesOf (now (text .entry)) (now (names .entry)) (min count 10)) List.[]) (now (room .exit)) r ⌝ }
 {
-    let n = at_most_ten(count);
+    let n = counts::at_most(count, 10);
     let few = products::both(set, products::all(n));
-    put_set(room, at, text, names, n, 0, few)
+    let table = dependence::table(&few);
+    put_set(room, at, text, names, n, 0, 0, &few, &table)
 }
 
-fn at_most_ten(count: usize) -> usize
-    ensures { λ r. ⌜ r ≡ min count 10 ⌝ }
-{
-    if 10 < count {
-        return 10;
-    }
-    count
-}
-
-// Lays the guard of the set, of which feature i and the later ones are left to split on. It calls
-// itself on both halves, each carried down as a set.
+// Lays the guard of the set's products that the choices made for the features before i allow. It
+// splits on the first feature from i on that the table marks, and calls itself on both halves.
 fn put_set(
     room: &mut [u8],
     at: usize,
@@ -47,38 +36,35 @@ fn put_set(
     names: &[[usize; 2]; 10],
     n: usize,
     i: usize,
-    set: [u64; 16],
+    chosen: usize,
+    set: &[u64; 16],
+    table: &[u64; 16],
 ) -> usize
-    ensures { λ r. ⌜ (Carried (min n 10) i set → Wrote (now (room .entry)) at (print (guardOf i (min n 10 - i) (λ q. inSet set (q * 2 ^ i))) (namesOf (now (text .entry)) (now (names .entry)) (min n 10)) List.[]) (now (room .exit)) r) ⌝ }
+    requires { ⌜ (n ≤ 10) × (i ≤ n) × (chosen < 2 ^ i) ⌝ }
+    ensures { λ r. ⌜ (Within n (now (set .entry)) → Tells (now (set .entry)) (now (table .entry)) → Wrote (now (room .entry)) at (print (guardOf i (n - i) (λ q. inSet (now (set .entry)) (chosen + q * 2 ^ i))) (namesOf (now (text .entry)) (now (names .entry)) n) List.[]) (now (room .exit)) r) ⌝ }
 {
-    if 10 <= i {
-        return put_leaf(room, at, set);
+    let j = dependence::first(table, n, i, chosen);
+    if n <= j {
+        return put_leaf(room, at, dependence::marked(set, chosen));
     }
-    if n <= i {
-        return put_leaf(room, at, set);
-    }
-    let there = present(set, i);
-    let elsewhere = absent(set, i);
-    if products::same(there, elsewhere) {
-        return put_set(room, at, text, names, n, i + 1, set);
-    }
-    let row = names[i];
+    let given = chosen + (1usize << j);
+    let row = names[j];
     let from = row[0];
     let upto = row[1];
     let a = text::put(room, at, b'(');
     let b = text::put_bytes(room, a, fields::piece(text, from, upto));
     let c = text::put(room, b, b'?');
-    let d = put_set(room, c, text, names, n, i + 1, there);
+    let d = put_set(room, c, text, names, n, j + 1, given, set, table);
     let e = text::put(room, d, b':');
-    let f = put_set(room, e, text, names, n, i + 1, elsewhere);
+    let f = put_set(room, e, text, names, n, j + 1, chosen, set, table);
     text::put(room, f, b')')
 }
 
-// Lays `1` if the set has product 0, else `0`.
-fn put_leaf(room: &mut [u8], at: usize, set: [u64; 16]) -> usize
-    ensures { λ r. ⌜ Wrote (now (room .entry)) at (leafText (inSet set 0)) (now (room .exit)) r ⌝ }
+// Lays `1` for yes, `0` for no.
+fn put_leaf(room: &mut [u8], at: usize, yes: bool) -> usize
+    ensures { λ r. ⌜ Wrote (now (room .entry)) at (leafText yes) (now (room .exit)) r ⌝ }
 {
-    if products::contains(set, 0) {
+    if yes {
         return text::put(room, at, b'1');
     }
     text::put(room, at, b'0')

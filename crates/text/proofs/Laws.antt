@@ -1,16 +1,17 @@
 -- Laws of texts in a room: one text after another is one text; what a text leaves in its room; what a dry run tells. And the equations of
 -- decimal numbers that a reader expects. The one idea: a place past the room's end writes nothing, however far past. Assumes nothing.
 use mathlib.Core.Path.{_≡_, refl, sym, ap, _∙_}
-use mathlib.Core.List.{List, [], _∷_, _++_, append-assoc, List·Memᴰ, List·Memᴰ·append-cases, List·Memᴰ·eq-of-singleton}
+use mathlib.Core.List.{List, [], _∷_, _++_, append-assoc, append-nil, List·Memᴰ, List·Memᴰ·append-cases, List·Memᴰ·eq-of-singleton}
 use mathlib.Core.Logic.{⊎-elim}
 use Prim.Native.Nat.{ℕ, zero, suc, _+_, _-_, _*_, _/_, _%_, _≤_, _<_, min}
 use native.Mathlib.Omega.{arith}
 use native.Mathlib.Numerals.{add-one}
 use native.Mathlib.Nat.{add-zero, zero-add, eq-zero-or-pos}
 use borrow.Author.Tests.{lt-ltb, le-ltb}
-use lib.ListN.{getD, length, set, take, drop, length-append}
-use lib.Seq.{sets, length-sets, sets-eq, set-out, take-suc, take-all, length-take-le, take-at, drop-at}
-use Rattle.text.specs.Text.{limit, behind, Wrote, digits, decimal, texts}
+use lib.ListN.{getD, length, set, take, drop, length-append, length-set, take-append-drop, drop-of-length-le}
+use lib.Seq.{sets, length-sets, sets-eq, set-out, set-at, take-suc, drop-cons, take-all, length-take-le, take-at, drop-at}
+use borrow.Rule.Slice.PartMut.{putMid, post-is}
+use Rattle.text.specs.Text.{limit, behind, Wrote, digits, decimal}
 
 -- ---- places
 
@@ -66,23 +67,67 @@ wrote-then {l} {u} {l′} {v} {l″} {at} {at′} {at″} a b =
           rw (sets-append l at u v, ← a .became, sets-behind l′ at (length u) v (rw (wrote-long a) (a .short)), ← a .moved) (b .became);
     }
 
--- one text more of a loop of texts
-pub wrote-more : {l l′ l″ : List ℕ} {at at′ at″ : ℕ} (f : ℕ → List ℕ) (i : ℕ) → Wrote l at (texts f i) l′ at′ → Wrote l′ at′ (f i) l″ at″ → Wrote l at (texts f (i + 1)) l″ at″
-unfolding texts
-wrote-more f i w v = rw add-one (wrote-then w v)
+-- ---- many bytes at once
 
--- no text of a loop of texts
-pub wrote-start : {l : List ℕ} {at : ℕ} (f : ℕ → List ℕ) → length l ≤ limit → Wrote l at (texts f 0) l at
-unfolding texts
-wrote-start f h = wrote-none h
+-- of a text as much as the room takes is laid
+sets-cut : (l : List ℕ) (at n : ℕ) (vs : List ℕ) → length l ≤ at + n → n ≤ length vs → sets l at vs ≡ sets l at (take n vs)
+sets-cut l at n vs h g =
+    let e : length (take n vs) ≡ n = length-take-le n vs g in
+    let p : length (sets l at (take n vs)) ≤ at + length (take n vs) = simp length-sets (omega arith) in
+    ap (sets l at) (sym (take-append-drop n vs)) ∙ sets-append l at (take n vs) (drop n vs) ∙ sets-past (sets l at (take n vs)) (at + length (take n vs)) (drop n vs) p
 
--- one byte more of a list of bytes
-pub bytes-more : {l l′ l″ : List ℕ} {at at′ at″ : ℕ} (s : List ℕ) (i : ℕ) → Wrote l at (take i s) l′ at′ → Wrote l′ at′ (getD s i 0 ∷ []) l″ at″ → i < length s → Wrote l at (take (i + 1) s) l″ at″
-bytes-more s i w v h = rw (add-one, take-suc s i 0 h) (wrote-then w v)
+-- the first i bytes are copied, and behind them stands what stood there
+pub record Copied (first bytes : List ℕ) (i : ℕ) (room : List ℕ) : Type 0 where
+  pub long : length room ≡ length first
+  pub is : room ≡ take i bytes ++ drop i first
 
--- all of a list of bytes
-pub bytes-all : {l l′ : List ℕ} {at at′ : ℕ} (s : List ℕ) (i : ℕ) → Wrote l at (take i s) l′ at′ → length s ≤ i → Wrote l at s l′ at′
-bytes-all s i w h = rw (take-all i s h) at w
+pub copied-none : (first bytes : List ℕ) → Copied first bytes 0 first
+copied-none first bytes = record { long = refl; is = refl }
+
+module _ {first bytes room : List ℕ} {i : ℕ} (c : Copied first bytes i room) where
+  pub copied-more : i < length bytes → length first ≡ length bytes → Copied first bytes (i + 1) (set room i (getD bytes i 0))
+  copied-more h g =
+      let a : take (i + 1) bytes ≡ take i bytes ++ (getD bytes i 0 ∷ []) = rw add-one (take-suc bytes i 0 h) in
+      let b : drop i first ≡ getD first i 0 ∷ drop (i + 1) first = rw add-one (drop-cons first i 0 (omega arith)) in
+      record {
+        long = simp length-set (c .long);
+        is =
+            rw (c .is, a, b, set-at (take i bytes) (getD first i 0) (drop (i + 1) first) (getD bytes i 0) i (length-take-le i bytes (omega arith)))
+            (sym (append-assoc (take i bytes) (getD bytes i 0 ∷ []) (drop (i + 1) first)));
+      }
+
+  pub copied-all : length bytes ≤ i → length first ≡ length bytes → room ≡ bytes
+  copied-all h g =
+      let z : length first ≤ i = omega arith in
+      c .is ∙ rw (take-all i bytes h, drop-of-length-le first z) (append-nil bytes)
+
+-- past the room's end nothing is laid
+pub wrote-past : {l vs : List ℕ} {at at′ : ℕ} → length l ≤ limit → at′ ≡ behind at (length vs) → length l ≤ at → Wrote l at vs l at′
+wrote-past {l} {vs} {at} h m g = record { short = h; moved = m; became = sym (sets-past l at vs g) }
+
+-- a text that fits, in the place of what stood there
+pub wrote-copied : {l vs l′ : List ℕ} {at at′ : ℕ} → length l ≤ limit → at′ ≡ behind at (length vs) → at + length vs ≤ length l
+    → l′ ≡ take at l ++ vs ++ drop (at + length vs) l → Wrote l at vs l′ at′
+wrote-copied {l} {vs} {l′} {at} h m g e = record { short = h; moved = m; became = e ∙ sym (sets-eq vs l at g) }
+
+-- the same as a loan of a part of the room gives it back
+pub wrote-part : {l vs ys : List ℕ} {at at′ : ℕ} → length l ≤ limit → at′ ≡ behind at (length vs) → at + length vs ≤ length l → ys ≡ vs
+    → Wrote l at vs (putMid at (at + length vs - at) l ys) at′
+wrote-part {l} {vs} {ys} {at} h m g e = wrote-copied h m g (rw (e, post-is at (at + length vs) l (omega arith)) (sym (append-assoc (take at l) vs (drop (at + length vs) l))))
+
+-- as much of a text as fits
+pub wrote-cut : {l vs l′ : List ℕ} {at at′ n : ℕ} → length l ≤ limit → at′ ≡ behind at (length vs) → n ≡ length l - at → at ≤ length l → n ≤ length vs
+    → l′ ≡ take at l ++ take n vs ++ drop (at + length (take n vs)) l → Wrote l at vs l′ at′
+wrote-cut {l} {vs} {l′} {at} {n = n} h m d f g e =
+    let p : at + length (take n vs) ≤ length l = rw (length-take-le n vs g) (omega arith) in
+    record { short = h; moved = m; became = e ∙ sym (sets-cut l at n vs (omega arith) g ∙ sets-eq (take n vs) l at p) }
+
+pub wrote-cut-part : {l vs ys : List ℕ} {at at′ : ℕ} → length l ≤ limit → at′ ≡ behind at (length vs) → at ≤ length l → length l - at ≤ length vs
+    → ys ≡ take (length l - at - 0) vs → Wrote l at vs (putMid at (at + (length l - at) - at) l ys) at′
+wrote-cut-part {l} {vs} {ys} {at} h m f g e =
+    let n : length (take (length l - at) vs) ≡ length l - at = length-take-le (length l - at) vs g in
+    let z : length l - at - 0 ≡ length l - at = omega arith in
+    wrote-cut h m refl f g (rw (e, z, n, post-is at (at + (length l - at)) l (omega arith)) (sym (append-assoc (take at l) (take (length l - at) vs) (drop (at + (length l - at)) l))))
 
 -- ---- what a text that fits leaves
 
@@ -132,10 +177,6 @@ module _ {d vs d′ : List ℕ} {n : ℕ} (w : Wrote d 0 vs d′ n) where
   pub dry-place : n ≡ min (length vs) limit
   dry-place = let m = w .moved in omega arith
 
-  -- of a text within the limit it is its length
-  pub wrote-dry : length vs ≤ limit → n ≡ length vs
-  wrote-dry h = let m = dry-place in omega arith
-
   -- m bytes, fewer than the limit, are room enough if the place says so
   pub dry-fits : {m : ℕ} → n ≤ m → m < limit → length vs ≤ m
   dry-fits h b = let m = dry-place in omega arith
@@ -143,22 +184,6 @@ module _ {d vs d′ : List ℕ} {n : ℕ} (w : Wrote d 0 vs d′ n) where
   -- and they are not if the place says so
   pub dry-too-long : {m : ℕ} → m < n → m < limit → m < length vs
   dry-too-long h b = let m = dry-place in omega arith
-
--- an empty room stays empty, so the room that it was cut from stays as it was
-pub dry-untouched : {vs d : List ℕ} {at n : ℕ} → Wrote [] at vs d n → (l : List ℕ) → d ++ l ≡ l
-dry-untouched {vs} {d} {at} w l = ap (λ (r : List ℕ). r ++ l) (w .became ∙ sets-past [] at vs (omega arith))
-
--- an outermost call that refuses: by a dry run in the first 0 bytes of the room l the text is longer than l, and l is as it was
-pub dry-refused : {vs d : List ℕ} {n : ℕ} (l : List ℕ) → Wrote [] 0 vs d n → length (d ++ l) < n → length l < limit → (length l < length vs) × (d ++ l ≡ l)
-dry-refused l w h b = let e = dry-untouched w l in (dry-too-long w (rw e at h) b, e)
-
--- an outermost call that writes: by a dry run the text fits, and a second run lays it
-pub dry-done : {vs d l′ : List ℕ} {n m : ℕ} (l : List ℕ) → Wrote [] 0 vs d n → Wrote (d ++ l) 0 vs l′ m → n ≤ length (d ++ l) → length l < limit → (length vs ≤ length l) × (m ≡ length vs) × (l′ ≡ vs ++ drop (length vs) l)
-dry-done l w v h b =
-    let e = dry-untouched w l in
-    let u = rw e at v in
-    let f = dry-fits w (rw e at h) b in
-    (f, wrote-end u f, wrote-whole u f)
 
 -- ---- decimal numbers
 

@@ -4,7 +4,8 @@
 ghost use mathlib.Core.Path.{_≡_};
 ghost use mathlib.Core.List.{List, _∷_};
 ghost use Prim.Native.Nat.{ℕ, _+_, _<_};
-ghost use Rattle.text.specs.Text.{Wrote, decimal};
+ghost use lib.ListN.{length};
+ghost use Rattle.text.specs.Text.{Wrote, behind, decimal};
 
 // No room is so long; a place stays here.
 const LIMIT: usize = 0x8000_0000_0000_0000;
@@ -22,17 +23,46 @@ pub fn put(room: &mut [u8], at: usize, b: u8) -> usize
     at
 }
 
-// Lays all of `bytes`.
+// Lays all of `bytes`: of a room that is too short only as many as it takes.
 pub fn put_bytes(room: &mut [u8], at: usize, bytes: &[u8]) -> usize
     ensures { λ r. ⌜ Wrote (now (room .entry)) at (now (bytes .entry)) (now (room .exit)) r ⌝ }
 {
-    let mut next = at;
+    let next = place_behind(at, bytes.len());
+    if room.len() <= at {
+        return next;
+    }
+    let rest = room.len() - at;
+    if bytes.len() <= rest {
+        copy(&mut room[at..at + bytes.len()], bytes);
+        return next;
+    }
+    copy(&mut room[at..at + rest], &bytes[0..rest]);
+    next
+}
+
+// The place behind n bytes from `at` on.
+fn place_behind(at: usize, n: usize) -> usize
+    ensures { λ r. ⌜ r ≡ behind at n ⌝ }
+{
+    if LIMIT <= at {
+        return at;
+    }
+    if LIMIT - at < n {
+        return LIMIT;
+    }
+    at + n
+}
+
+// Lays all of `bytes` into a room that is as long.
+fn copy(room: &mut [u8], bytes: &[u8])
+    requires { ⌜ length (now room) ≡ length (now bytes) ⌝ }
+    ensures { λ _. ⌜ now (room .exit) ≡ now (bytes .entry) ⌝ }
+{
     let mut i = 0;
     while i < bytes.len() {
-        next = put(room, next, bytes[i]);
+        room[i] = bytes[i];
         i += 1;
     }
-    next
 }
 
 // The digit n, below 10, as a byte.

@@ -9,16 +9,20 @@ use Rattle.cleaning.proofs.put_stops.Statement.{statement}
 use Rattle.cleaning.proofs.put_stops.Tie as tie
 
 abbrev Inv-loop : tie.InvT-loop
-Inv-loop room₀ at text names features count moves guards sets next₀ q₀ room next q = (q ≤ 64) × StopsLaid text names moves guards sets (min features 10) (min count 256) room₀ at q room next
+Inv-loop room₀ at text names features count moves guards sets out next₀ q₀ room next q = (q ≤ 64) × StopsLaid text names moves guards sets (min features 10) (min count 256) room₀ at q room next
 
 abbrev μ-loop : tie.MeasureT-loop
-μ-loop room₀ at text names features count moves guards sets next₀ q₀ room next q = 64 - q
+μ-loop room₀ at text names features count moves guards sets out next₀ q₀ room next q = 64 - q
 
 loop-holds : tie.Need-loop-holds Inv-loop μ-loop
 loop-holds c = (omega arith, stops-none (search needs))
 
 loop-again : tie.Need-loop-again Inv-loop μ-loop
-loop-again c = (omega arith, stops-more (c .before .before .before .before .before .before .before .loop .inv .1) _ (c .before .before .before .before .before .out-of .ensures) (c .before .before .put-stop .ensures))
+loop-again c =
+    let laid = c .before .before in
+    let test = laid .before .before .before .before in
+    let loop = test .before in
+    (omega arith, stops-more (loop .loop .inv .1) _ (loop .before .all-out .ensures _ (test .loop-test .taken)) (laid .put-stop .ensures))
 
 same-length : tie.Need-same-length Inv-loop μ-loop
 same-length c = wrote-long (c .before .loop .inv .1 .laid)
@@ -32,8 +36,10 @@ put-stops-spec =
     (tie.spec
     Inv-loop
     μ-loop
-    loop-holds
     (λ c κs. search needs)
+    loop-holds
+    (λ c. search needs)
+    (λ c. search needs)
     (λ c. search needs)
     (λ c. search needs)
     (λ c κs. search needs)

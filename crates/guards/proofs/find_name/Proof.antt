@@ -13,7 +13,7 @@ abbrev μ-loop : tie.MeasureT-loop
 μ-loop text names count name i₀ i = i
 
 loop-holds : tie.Need-loop-holds Inv-loop μ-loop
-loop-holds c = left-all _ _ _ (c .at-most-ten .ensures)
+loop-holds c = left-all _ _ _ (c .at-most .ensures)
 
 returns : tie.Need-returns Inv-loop μ-loop
 returns c = left-here _ (c .before .before .before .before .before .loop .inv) (omega arith) (c .before .before .piece .ensures) (c .before .same-bytes .ensures) (c .if1 .taken)

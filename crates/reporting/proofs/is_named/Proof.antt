@@ -5,25 +5,28 @@ use Rattle.reporting.proofs.is_named.Statement.{statement}
 use Rattle.reporting.proofs.is_named.Tie as tie
 
 returns : tie.Need-returns
-returns c = rw (eq-eqb (c .before .args .q) (c .before .args .c .start) (c .if1 .taken))
+returns c = rw (eq-eqb _ _ (c .if1 .taken))
 
 returns-2 : tie.Need-returns-2
-returns-2 c = rw (ne-eqb (c .before .before .before .args .q) (c .before .before .before .args .c .start) (c .before .before .if1 .left), ← c .before .has-state .ensures, c .if2 .taken)
+returns-2 c = rw (ne-eqb _ _ (c .before .before .if1 .left), eq-eqb _ _ (c .if2 .taken))
 
 returns-3 : tie.Need-returns-3
-returns-3 c = rw (ne-eqb (c .before .before .before .before .before .args .q) (c .before .before .before .before .before .args .c .start) (c .before .before .before .before .if1 .left), ← c .before .before .before .has-state .ensures, c .before .before .if2 .left, ← c .before .has-state2 .ensures, c .if3 .taken)
+returns-3 c = rw (ne-eqb _ _ (c .before .before .before .before .if1 .left), ne-eqb _ _ (c .before .before .if2 .left), eq-eqb _ _ (c .if3 .taken))
 
 returns-4 : tie.Need-returns-4
-returns-4 c = rw (ne-eqb (c .before .before .before .before .before .before .args .q) (c .before .before .before .before .before .before .args .c .start) (c .before .before .before .before .before .if1 .left), ← c .before .before .before .before .has-state .ensures, c .before .before .before .if2 .left, ← c .before .before .has-state2 .ensures, c .before .if3 .left) (c .has-stop .ensures)
+returns-4 c = rw (ne-eqb _ _ (c .before .before .before .before .before .if1 .left), ne-eqb _ _ (c .before .before .before .if2 .left), ne-eqb _ _ (c .before .if3 .left))
 
 pub is-named-spec : {M : Type 1} → statement M
 is-named-spec =
     tie.close
     (tie.spec
     returns
-    (λ c κs. search needs)
+    (λ c. search needs)
+    (λ c. search needs)
     returns-2
-    (λ c κs. search needs)
+    (λ c. search needs)
+    (λ c. search needs)
     returns-3
-    (λ c κs. search needs)
+    (λ c. search needs)
+    (λ c. search needs)
     returns-4)

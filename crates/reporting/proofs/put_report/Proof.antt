@@ -6,17 +6,18 @@ use Rattle.reporting.proofs.put_report.Tie as tie
 
 returns : tie.Need-returns
 returns c = λ r ready deep.
-    let depth = c .before .before in
-    let stops = depth .before .before .before .before in
-    let states = stops .before .before .before .before in
-    let moves = states .before .before .before .before in
-    whole-report (moves .put-moves .ensures _ _ r ready) (states .put-states .ensures r ready) (stops .put-stops .ensures r ready) deep
-    (depth .put-depth .ensures)
+    let stops = c .before .before .before .before .before .before in
+    let states = stops .before .before .before .before .before in
+    let moves = states .before .before .before .before .before in
+    let out = moves .before .before in
+    whole-report (moves .put-moves .ensures _ _ r ready) (states .put-states .ensures _ r ready (out .all-out .ensures))
+    (stops .put-stops .ensures _ _ r ready (out .all-out .ensures)) deep (c .before .before .put-depth .ensures)
 
 pub put-report-spec : {M : Type 1} → statement M
 put-report-spec =
     tie.close
     (tie.spec
+    (λ c κs. search needs)
     (λ c κs. search needs)
     (λ c κs. search needs)
     (λ c κs. search needs)

@@ -3,22 +3,28 @@
 use borrow.Author.Needs.{needs}
 use Prim.Native.Nat.{_≤_, _-_}
 use native.Mathlib.Omega.{arith}
-use Rattle.reporting.specs.Promise.{Ready}
-use Rattle.reporting.proofs.Loops.{Laid, StatesUpto, states-none, states-more, states-all}
+use Rattle.reporting.proofs.Loops.{Laid, StatesReady, StatesUpto, states-none, states-more, states-all}
 use Rattle.reporting.proofs.put_states.Statement.{statement}
 use Rattle.reporting.proofs.put_states.Tie as tie
 
 abbrev Inv-loop : tie.InvT-loop
-Inv-loop room₀ at c sets moves move-guards stops stop-guards next₀ q₀ room next q = (q ≤ 64) × Laid (Ready c moves move-guards stops stop-guards sets) StatesUpto room₀ at q room next
+Inv-loop room₀ at c sets out moves stops stop-guards leaves ends stopped next₀ q₀ room next q = (q ≤ 64) × Laid (StatesReady c moves stops stop-guards sets out) StatesUpto room₀ at q room next
 
 abbrev μ-loop : tie.MeasureT-loop
-μ-loop room₀ at c sets moves move-guards stops stop-guards next₀ q₀ room next q = 64 - q
+μ-loop room₀ at c sets out moves stops stop-guards leaves ends stopped next₀ q₀ room next q = 64 - q
 
 loop-holds : tie.Need-loop-holds Inv-loop μ-loop
 loop-holds c = (omega arith, states-none (search needs))
 
 loop-again : tie.Need-loop-again Inv-loop μ-loop
-loop-again c = (omega arith, states-more (c .before .before .before .before .before .loop .inv .1) (search needs) (c .before .before .put-state-at .ensures))
+loop-again c = (
+  omega arith,
+  let turn = c .before .before .before .before .before .before .before .before in
+      let stopped = turn .before in
+      let ended = stopped .before in
+      let left = ended .before in
+      states-more (turn .loop .inv .1) (search needs) (left .states-at .ensures) (ended .states-at2 .ensures) (stopped .stopped-states .ensures) (c .before .before .put-state-at .ensures),
+)
 
 same-length : tie.Need-same-length Inv-loop μ-loop
 same-length c = c .before .loop .inv .1 .long
@@ -32,6 +38,9 @@ put-states-spec =
     (tie.spec
     Inv-loop
     μ-loop
+    (λ c κs. search needs)
+    (λ c κs. search needs)
+    (λ c κs. search needs)
     loop-holds
     (λ c κs. search needs)
     (λ c. search needs)

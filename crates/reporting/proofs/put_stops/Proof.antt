@@ -3,30 +3,32 @@
 use borrow.Author.Needs.{needs}
 use Prim.Native.Nat.{_≤_, _-_}
 use native.Mathlib.Omega.{arith}
-use Rattle.reporting.specs.Promise.{Ready}
-use Rattle.reporting.proofs.Loops.{Laid, StopsUpto, stops-none, stops-more, stops-all}
+use Rattle.reporting.proofs.Loops.{Laid, StopsReady, StopsUpto, stops-none, stops-more, stops-all}
 use Rattle.reporting.proofs.put_stops.Statement.{statement}
 use Rattle.reporting.proofs.put_stops.Tie as tie
 
 abbrev Inv-loop : tie.InvT-loop
-Inv-loop room₀ at c sets moves move-guards stops stop-guards n next₀ i₀ room next i = (i ≤ n) × Laid (Ready c moves move-guards stops stop-guards sets) (StopsUpto n) room₀ at i room next
+Inv-loop room₀ at sets out stops stop-guards n next₀ i₀ room next i = (i ≤ n) × Laid (StopsReady n stops stop-guards sets out) (StopsUpto n) room₀ at i room next
 
 abbrev μ-loop : tie.MeasureT-loop
-μ-loop room₀ at c sets moves move-guards stops stop-guards n next₀ i₀ room next i = n - i
+μ-loop room₀ at sets out stops stop-guards n next₀ i₀ room next i = n - i
 
 loop-holds : tie.Need-loop-holds Inv-loop μ-loop
-loop-holds c = (omega arith, stops-none (c .at-most .ensures) (search needs))
+loop-holds c = (omega arith, stops-none (search needs))
 
 loop-again : tie.Need-loop-again Inv-loop μ-loop
-loop-again c =
-    let j = c .before .before .before .before .stop-at in
-    (omega arith, stops-more (c .before .before .before .before .before .before .before .before .at-most .ensures) (j .result) (c .before .before .before .before .before .before .before .loop .inv .1) (c .before .before .put-stop .ensures) (omega arith) (j .ensures))
+loop-again c = (
+  omega arith,
+  let judged = c .before .before .before .before in
+      let turn = judged .before .before .before .before .before .before in
+      stops-more (judged .judge-stop .result) (turn .loop .inv .1) (c .before .before .put-stop .ensures) (omega arith) (judged .judge-stop .ensures),
+)
 
 same-length : tie.Need-same-length Inv-loop μ-loop
 same-length c = c .before .loop .inv .1 .long
 
 returns : tie.Need-returns Inv-loop μ-loop
-returns c = stops-all (c .before .before .at-most .ensures) (c .before .loop .inv .1) (omega arith)
+returns c = stops-all (c .before .loop .inv .1) (omega arith) (c .before .before .at-most .ensures)
 
 pub put-stops-spec : {M : Type 1} → statement M
 put-stops-spec =
@@ -36,6 +38,13 @@ put-stops-spec =
     μ-loop
     (λ c κs. search needs)
     loop-holds
+    (λ c. search needs)
+    (λ c. search needs)
+    (λ c. search needs)
+    (λ c. search needs)
+    (λ c. search needs)
+    (λ c. search needs)
+    (λ c. search needs)
     (λ c. search needs)
     (λ c. search needs)
     (λ c κs. search needs)

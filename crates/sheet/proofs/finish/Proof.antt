@@ -6,18 +6,18 @@ use Rattle.sheet.proofs.finish.Statement.{statement}
 use Rattle.sheet.proofs.finish.Tie as tie
 
 returns : tie.Need-returns
-returns c = λ s n m g t h st so. lacking so _ (c .before .if1 .taken) (c .refuse-sheet .ensures)
+returns c = λ s n m g t h seen st so. lacking so _ (c .before .if1 .taken) (c .refuse-sheet .ensures)
 
 returns-2 : tie.Need-returns-2
 returns-2 c =
-    λ s n m g t h st so.
+    λ s n m g t h seen st so.
     no-product so _ (c .before .before .before .before .before .before .before .if1 .left) _ _ (c .before .before .before .before .both .ensures)
     (c .before .before .before .before .before .all .ensures) _ (c .before .before .before .least .ensures) (c .before .enum-told2 .given .1)
     (c .refuse-sheet2 .ensures)
 
 returns-3 : tie.Need-returns-3
 returns-3 c =
-    λ s n m g t h st so.
+    λ s n m g t h seen st so.
     finished so _ (c .before .before .before .before .before .before .if1 .left) _ _ (c .before .before .before .both .ensures)
     (c .before .before .before .before .all .ensures) _ (c .before .before .least .ensures) (c .enum-told .given .1)
 

@@ -1,42 +1,42 @@
--- `put_bytes`: what was laid so far is what was passed of the bytes, one byte more a turn. The measure is what is left of them. Assumes nothing.
-use Prim.Native.Nat.{_-_, _≤_}
-use native.Mathlib.Omega.{arith}
-use lib.ListN.{length, take}
-use Rattle.text.specs.Text.{Wrote}
-use Rattle.text.proofs.Laws.{wrote-none, wrote-long, bytes-more, bytes-all}
+-- `put_bytes`: past the room's end nothing is laid; else what fits is copied at once. Assumes nothing.
+use Prim.Native.Nat.{_≤_}
+use lib.ListN.{length}
+use Rattle.text.specs.Text.{limit}
+use Rattle.text.proofs.Laws.{wrote-past, wrote-part, wrote-cut-part}
 use borrow.Author.Needs.{needs}
 use Rattle.text.proofs.put_bytes.Statement.{statement}
 use Rattle.text.proofs.put_bytes.Tie as tie
 
-abbrev Inv-loop : tie.InvT-loop
-Inv-loop room₀ at bytes next₀ i₀ room next i = (i ≤ length bytes) × Wrote room₀ at (take i bytes) room next
+returns : tie.Need-returns
+returns c = wrote-past (search needs) (c .before .place-behind .ensures) (c .if1 .taken)
 
-abbrev μ-loop : tie.MeasureT-loop
-μ-loop room₀ at bytes next₀ i₀ room next i = length bytes - i
+returns-2 : tie.Need-returns-2
+returns-2 c = wrote-part (search needs) (c .before .before .before .before .before .before .place-behind .ensures) (search needs) (c .before .before .copy .ensures)
 
-loop-holds : tie.Need-loop-holds Inv-loop μ-loop
-loop-holds c = (omega arith, wrote-none (search needs))
-
-loop-again : tie.Need-loop-again Inv-loop μ-loop
-loop-again c = (omega arith, bytes-more _ _ (c .before .before .before .before .before .before .loop .inv .1) (c .before .before .put .ensures) (c .before .before .before .before .before .loop-test .taken))
-
-same-length : tie.Need-same-length Inv-loop μ-loop
-same-length c = wrote-long (c .before .loop .inv .1)
-
-returns : tie.Need-returns Inv-loop μ-loop
-returns c = bytes-all _ _ (c .before .loop .inv .1) (c .loop-test .left)
+returns-3 : tie.Need-returns-3
+returns-3 c = wrote-cut-part (search needs) (c .before .before .before .before .before .before .before .place-behind .ensures) (search needs) (search needs) (c .before .before .copy2 .ensures)
 
 pub put-bytes-spec : {M : Type 1} → statement M
 put-bytes-spec =
     tie.close
     (tie.spec
-    Inv-loop
-    μ-loop
-    loop-holds
+    (λ c κs. search needs)
+    returns
+    (λ c. search needs)
+    (λ c. search needs)
+    (λ c. search needs)
+    (λ c. search needs)
     (λ c. search needs)
     (λ c κs. search needs)
     (λ c. search needs)
+    returns-2
     (λ c. search needs)
-    loop-again
-    same-length
-    returns)
+    (λ c. search needs)
+    (λ c. search needs)
+    (λ c. search needs)
+    (λ c. search needs)
+    (λ c. search needs)
+    (λ c. search needs)
+    (λ c κs. search needs)
+    (λ c. search needs)
+    returns-3)

@@ -14,19 +14,20 @@ returns c =
 returns-2 : tie.Need-returns-2
 returns-2 c =
     λ v t h st so lies.
-    move-repeat _ st _ _ _ _ _ (c .before .before .before .before .before .before .read-whole .result .read)
-    (c .before .before .before .before .before .before .read-whole .result .set) so
-    (c .before .before .before .before .before .before .read-whole .ensures) (c .before .before .before .before .enum-told .given .1)
-    (c .before .before .has-move .ensures) (c .before .if1 .taken) (c .refuse2 .ensures)
+    move-repeat _ st _ _ _ _ _ (c .before .before .before .before .before .before .before .read-whole .result .read)
+    (c .before .before .before .before .before .before .before .read-whole .result .set) so
+    (c .before .before .before .before .before .before .before .read-whole .ensures) (c .before .before .before .before .before .enum-told .given .1)
+    (c .before .before .is-repeat .ensures) (c .before .if1 .taken) (c .refuse2 .ensures)
 
 returns-3 : tie.Need-returns-3
 returns-3 c =
     λ v t h st so lies.
-    move-kept _ st _ _ _ _ _ (c .before .before .before .before .before .before .before .read-whole .result .read)
-    (c .before .before .before .before .before .before .before .read-whole .result .set) so
-    (c .before .before .before .before .before .before .before .read-whole .ensures) (c .before .before .before .before .before .enum-told .given .1)
-    (c .before .before .before .has-move .ensures) (c .before .before .if1 .left)
-    (c .before .before .before .before .before .before .before .before .before .before .before .pre .1) lies (c .before .plain .ensures)
+    move-kept _ st _ _ _ _ _ (c .before .before .before .before .before .before .before .before .read-whole .result .read)
+    (c .before .before .before .before .before .before .before .before .read-whole .result .set) so
+    (c .before .before .before .before .before .before .before .before .read-whole .ensures)
+    (c .before .before .before .before .before .before .enum-told .given .1) (c .before .before .before .is-repeat .ensures)
+    (c .before .before .if1 .left) (c .before .before .before .before .before .before .before .before .before .before .before .before .pre .1) lies
+    (c .before .plain .ensures)
 
 pub keep-move-spec : {M : Type 1} → statement M
 keep-move-spec =

@@ -5,24 +5,24 @@ use Rattle.sheet.proofs.line.read_feature.Statement.{statement}
 use Rattle.sheet.proofs.line.read_feature.Tie as tie
 
 returns : tie.Need-returns
-returns c = λ v m g t h st so lies. feature-wrong _ (c .before .before .is-one .result) (c .before .before .is-one .ensures) _ _ st (c .before .if1 .taken) (c .refuse .ensures)
+returns c = λ v m g t h seen st so lies. feature-wrong _ (c .before .before .is-one .result) (c .before .before .is-one .ensures) _ _ st (c .before .if1 .taken) (c .refuse .ensures)
 
 returns-2 : tie.Need-returns-2
 returns-2 c =
-    λ v m g t h st so lies.
+    λ v m g t h seen st so lies.
     feature-full _ (c .before .before .before .is-one .result) (c .before .before .before .is-one .ensures) _ _ st (c .before .before .if1 .left) so
     (c .before .if2 .taken) (c .refuse2 .ensures)
 
 returns-3 : tie.Need-returns-3
 returns-3 c =
-    λ v m g t h st so lies.
+    λ v m g t h seen st so lies.
     feature-bad _ (c .before .before .before .before .before .is-one .result) (c .before .before .before .before .before .is-one .ensures) _ _ st
     (c .before .before .before .before .if1 .left) so (c .before .before .before .if2 .left) (c .before .before .is-name .ensures)
     (c .before .if3 .taken) (c .refuse3 .ensures)
 
 returns-4 : tie.Need-returns-4
 returns-4 c =
-    λ v m g t h st so lies.
+    λ v m g t h seen st so lies.
     feature-repeat _ (c .before .before .before .before .before .before .before .before .before .is-one .result)
     (c .before .before .before .before .before .before .before .before .before .is-one .ensures) _ _ st
     (c .before .before .before .before .before .before .before .before .if1 .left) so
@@ -32,7 +32,7 @@ returns-4 c =
 
 returns-5 : tie.Need-returns-5
 returns-5 c =
-    λ v m g t h st so lies.
+    λ v m g t h seen st so lies.
     feature-kept _ (c .before .before .before .before .before .before .before .before .is-one .result)
     (c .before .before .before .before .before .before .before .before .is-one .ensures) _ _ st
     (c .before .before .before .before .before .before .before .if1 .left) so (c .before .before .before .before .before .before .if2 .left)

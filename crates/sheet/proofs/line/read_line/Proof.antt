@@ -36,9 +36,10 @@ read-feature-requires c κs =
 read-move-requires : tie.Need-read-move-requires
 unfolding part
 read-move-requires c κs =
-    (rest-lies _ _ _ (c .before .before .before .before .before .before .before .before .before .before .before .before .pre .0)
-    (c .before .before .before .before .before .before .before .before .before .before .before .before .pre .1) _
-    (c .before .before .before .before .before .before .before .before .if1 .left)) .within
+    (rest-lies _ _ _
+    (c .before .before .before .before .before .before .before .before .before .before .before .before .before .pre .0)
+    (c .before .before .before .before .before .before .before .before .before .before .before .before .before .pre .1) _
+    (c .before .before .before .before .before .before .before .before .before .if1 .left)) .within
 
 returns-2 : tie.Need-returns-2
 unfolding part
@@ -46,7 +47,7 @@ returns-2 c =
     λ st so.
     line-of _ (c .before .before .before .before .before .before .before .find .ensures) _ _ st
     (c .before .before .before .before .before .before .if1 .left) (so .section) (c .before .before .before .line-kind .ensures)
-    (c .before .enum-told .given .1) (c .read-fts .ensures _ _ st so)
+    (c .before .enum-told .given .1) (c .read-fts .ensures _ _ _ st so)
 
 returns-3 : tie.Need-returns-3
 unfolding part
@@ -55,7 +56,7 @@ returns-3 c =
     line-of _ (c .before .before .before .before .before .before .before .before .find .ensures) _ _ st
     (c .before .before .before .before .before .before .before .if1 .left) (so .section) (c .before .before .before .before .line-kind .ensures)
     (c .before .before .enum-told2 .given .1)
-    (c .read-feature .ensures _ _ _ _ _ st so
+    (c .read-feature .ensures _ _ _ _ _ _ st so
     (rest-lies _ _ _ (c .before .before .before .before .before .before .before .before .before .before .before .pre .0)
     (c .before .before .before .before .before .before .before .before .before .before .before .pre .1) _
     (c .before .before .before .before .before .before .before .if1 .left)))
@@ -67,7 +68,7 @@ returns-4 c =
     line-of _ (c .before .before .before .before .before .before .before .before .before .find .ensures) _ _ st
     (c .before .before .before .before .before .before .before .before .if1 .left) (so .section)
     (c .before .before .before .before .before .line-kind .ensures) (c .before .before .before .enum-told3 .given .1)
-    (c .read-valid .ensures _ _ _ _ st so)
+    (c .read-valid .ensures _ _ _ _ _ st so)
 
 returns-5 : tie.Need-returns-5
 unfolding part
@@ -75,19 +76,19 @@ returns-5 c =
     λ st so.
     line-of _ (c .before .before .before .before .before .before .before .find .ensures) _ _ st
     (c .before .before .before .before .before .before .if1 .left) (so .section) (c .before .before .before .line-kind .ensures)
-    (c .before .enum-told4 .given .1) (c .read-start .ensures _ _ st so)
+    (c .before .enum-told4 .given .1) (c .read-start .ensures _ _ _ st so)
 
 returns-6 : tie.Need-returns-6
 unfolding part
 returns-6 c =
     λ st so.
-    line-of _ (c .before .before .before .before .before .before .before .before .before .before .find .ensures) _ _ st
-    (c .before .before .before .before .before .before .before .before .before .if1 .left) (so .section)
-    (c .before .before .before .before .before .before .line-kind .ensures) (c .before .before .before .before .enum-told5 .given .1)
+    line-of _ (c .before .before .before .before .before .before .before .before .before .before .before .find .ensures) _ _ st
+    (c .before .before .before .before .before .before .before .before .before .before .if1 .left) (so .section)
+    (c .before .before .before .before .before .before .before .line-kind .ensures) (c .before .before .before .before .before .enum-told5 .given .1)
     (c .read-move .ensures _ _ _ st so
-    (rest-lies _ _ _ (c .before .before .before .before .before .before .before .before .before .before .before .before .before .pre .0)
-    (c .before .before .before .before .before .before .before .before .before .before .before .before .before .pre .1) _
-    (c .before .before .before .before .before .before .before .before .before .if1 .left)))
+    (rest-lies _ _ _ (c .before .before .before .before .before .before .before .before .before .before .before .before .before .before .pre .0)
+    (c .before .before .before .before .before .before .before .before .before .before .before .before .before .before .pre .1) _
+    (c .before .before .before .before .before .before .before .before .before .before .if1 .left)))
 
 returns-7 : tie.Need-returns-7
 unfolding part
@@ -96,7 +97,7 @@ returns-7 c =
     line-of _ (c .before .before .before .before .before .before .before .before .before .before .find .ensures) _ _ st
     (c .before .before .before .before .before .before .before .before .before .if1 .left) (so .section)
     (c .before .before .before .before .before .before .line-kind .ensures) (c .before .before .before .before .enum-told6 .given .1)
-    (c .read-stop .ensures _ _ _ st so)
+    (c .read-stop .ensures _ _ _ _ st so)
 
 returns-8 : tie.Need-returns-8
 unfolding part

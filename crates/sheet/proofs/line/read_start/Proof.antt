@@ -5,18 +5,18 @@ use Rattle.sheet.proofs.line.read_start.Statement.{statement}
 use Rattle.sheet.proofs.line.read_start.Tie as tie
 
 returns : tie.Need-returns
-returns c = λ s T st so. start-wrong _ (c .before .before .is-one .result) (c .before .before .is-one .ensures) _ st (c .before .if1 .taken) (c .refuse .ensures)
+returns c = λ s T seen st so. start-wrong _ (c .before .before .is-one .result) (c .before .before .is-one .ensures) _ st (c .before .if1 .taken) (c .refuse .ensures)
 
 returns-2 : tie.Need-returns-2
 returns-2 c =
-    λ s T st so.
+    λ s T seen st so.
     start-bad _ (c .before .before .before .before .before .is-one .result) (c .before .before .before .before .before .is-one .ensures) _ st
     (c .before .before .before .before .if1 .left) (c .before .enum-told .given .1) (c .before .before .before .read-state .ensures)
     (c .refuse2 .ensures)
 
 returns-3 : tie.Need-returns-3
 returns-3 c =
-    λ s T st so.
+    λ s T seen st so.
     start-kept _ (c .before .before .before .before .before .is-one .result) (c .before .before .before .before .before .is-one .ensures) _ st so
     (c .before .before .before .before .if1 .left) (c .before .q .given .1) (c .before .before .before .read-state .ensures)
 

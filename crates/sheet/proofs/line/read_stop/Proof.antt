@@ -7,7 +7,7 @@ use Rattle.sheet.proofs.line.read_stop.Statement.{statement}
 use Rattle.sheet.proofs.line.read_stop.Tie as tie
 
 returns : tie.Need-returns
-returns c = λ v m g st so. stop-wrong _ _ st (c .before .enum-told .given .1) (c .before .before .before .cut-two .ensures) (c .refuse .ensures)
+returns c = λ v m g seen st so. stop-wrong _ _ st (c .before .enum-told .given .1) (c .before .before .before .cut-two .ensures) (c .refuse .ensures)
 
 sub-read-state : tie.Need-sub-read-state
 sub-read-state c = let k = parted-of _ (c .before .cut .given .1) (c .before .before .before .cut-two .ensures) in omega arith
@@ -21,7 +21,7 @@ part-read-state-end c = let k = parted-of _ (c .before .cut .given .1) (c .befor
 returns-2 : tie.Need-returns-2
 unfolding part
 returns-2 c =
-    λ v m g st so.
+    λ v m g seen st so.
     stop-state _ _ st (c .before .before .before .before .before .before .cut .given .1)
     (c .before .before .before .before .before .before .before .before .cut-two .ensures) (c .before .enum-told2 .given .1)
     (c .before .before .before .read-state .ensures) (c .refuse2 .ensures)
@@ -53,7 +53,7 @@ part-read-whole-end c =
 returns-3 : tie.Need-returns-3
 unfolding part
 returns-3 c =
-    λ v m g st so.
+    λ v m g seen st so.
     stop-refused _ _ st (c .before .before .before .before .before .before .before .before .before .before .before .before .cut .given .1)
     (c .before .before .before .before .before .before .before .before .before .before .before .before .before .before .cut-two .ensures)
     (c .before .before .before .before .before .before .before .q .given .1)
@@ -64,7 +64,7 @@ returns-3 c =
 returns-4 : tie.Need-returns-4
 unfolding part
 returns-4 c =
-    λ v m g st so.
+    λ v m g seen st so.
     stop-repeat _ _ st
     (c .before .before .before .before .before .before .before .before .before .before .before .before .before .before .cut .given .1)
     (c .before .before .before .before .before .before .before .before .before .before .before .before .before .before .before .before .cut-two .ensures)
@@ -78,7 +78,7 @@ returns-4 c =
 returns-5 : tie.Need-returns-5
 unfolding part
 returns-5 c =
-    λ v m g st so.
+    λ v m g seen st so.
     stop-never _ _ st
     (c .before .before .before .before .before .before .before .before .before .before .before .before .before .before .before .cut .given .1)
     (c .before .before .before .before .before .before .before .before .before .before .before .before .before .before .before .before .before .cut-two .ensures)
@@ -92,16 +92,17 @@ returns-5 c =
 returns-6 : tie.Need-returns-6
 unfolding part
 returns-6 c =
-    λ v m g st so.
+    λ v m g seen st so.
     stop-kept _ _ st
-    (c .before .before .before .before .before .before .before .before .before .before .before .before .before .before .before .cut .given .1)
-    (c .before .before .before .before .before .before .before .before .before .before .before .before .before .before .before .before .before .cut-two .ensures)
-    (c .before .before .before .before .before .before .before .before .before .before .q .given .1)
-    (c .before .before .before .before .before .before .before .before .before .before .before .before .read-state .ensures)
-    (c .before .before .before .before .before .before .before .read-whole .result .read)
-    (c .before .before .before .before .before .before .before .read-whole .result .set) so
-    (c .before .before .before .before .before .before .before .read-whole .ensures) (c .before .before .before .before .before .enum-told3 .given .1)
-    (c .before .before .before .has-stop .ensures) (c .before .before .if1 .left)
+    (c .before .before .before .before .before .before .before .before .before .before .before .before .before .before .before .before .cut .given .1)
+    (c .before .before .before .before .before .before .before .before .before .before .before .before .before .before .before .before .before .before .cut-two .ensures)
+    (c .before .before .before .before .before .before .before .before .before .before .before .q .given .1)
+    (c .before .before .before .before .before .before .before .before .before .before .before .before .before .read-state .ensures)
+    (c .before .before .before .before .before .before .before .before .read-whole .result .read)
+    (c .before .before .before .before .before .before .before .before .read-whole .result .set) so
+    (c .before .before .before .before .before .before .before .before .read-whole .ensures)
+    (c .before .before .before .before .before .before .enum-told3 .given .1) (c .before .before .before .before .has-stop .ensures)
+    (c .before .before .before .if1 .left) (c .with-stop .ensures)
 
 pub read-stop-spec : {M : Type 1} → statement M
 read-stop-spec =
@@ -138,5 +139,5 @@ read-stop-spec =
     (λ c. search needs)
     (λ c. search needs)
     (λ c. search needs)
-    (λ c. search needs)
+    (λ c κs. search needs)
     returns-6)

@@ -5,11 +5,11 @@ use Rattle.sheet.proofs.line.read_valid.Statement.{statement}
 use Rattle.sheet.proofs.line.read_valid.Tie as tie
 
 returns : tie.Need-returns
-returns c = λ m g t h st so. valid-wrong _ (c .before .before .is-one .result) (c .before .before .is-one .ensures) _ st (c .before .if1 .taken) (c .refuse .ensures)
+returns c = λ m g t h seen st so. valid-wrong _ (c .before .before .is-one .result) (c .before .before .is-one .ensures) _ st (c .before .if1 .taken) (c .refuse .ensures)
 
 returns-2 : tie.Need-returns-2
 returns-2 c =
-    λ m g t h st so.
+    λ m g t h seen st so.
     valid-refused _ (c .before .before .before .before .before .before .is-one .result)
     (c .before .before .before .before .before .before .is-one .ensures) _ st (c .before .before .before .before .before .if1 .left)
     (c .before .before .before .before .read-whole .result .read) (c .before .before .before .before .read-whole .result .set) so
@@ -17,7 +17,7 @@ returns-2 c =
 
 returns-3 : tie.Need-returns-3
 returns-3 c =
-    λ m g t h st so.
+    λ m g t h seen st so.
     valid-kept _ (c .before .before .before .before .before .is-one .result) (c .before .before .before .before .before .is-one .ensures) _ st
     (c .before .before .before .before .if1 .left) (c .before .before .before .read-whole .result .read)
     (c .before .before .before .read-whole .result .set) so (c .before .before .before .read-whole .ensures) (c .before .enum-told .given .1)

@@ -1,0 +1,106 @@
+// Runs the report or the clean sheet of the sheet on standard input many times over and writes what
+// the last run gave: `bench report 1000` or `bench clean 1000`. Nothing is measured here.
+use libc::STDOUT_FILENO;
+
+const MOST_TURNS: usize = 1_000_000_000;
+
+fn main() {
+    let mut buf = [0u8; 65537];
+    let n = console::read_input(&mut buf);
+    let mut room = [0u8; 65536];
+    let mut word = [0u8; 16];
+    let a = os::arg(1, &mut word);
+    let mode = mode_of(&word, a);
+    let b = os::arg(2, &mut word);
+    let turns = turns_of(&word, b);
+    if mode == 1 {
+        report_turns(&buf[..n], &mut room, turns);
+        return;
+    }
+    if mode == 2 {
+        clean_turns(&buf[..n], &mut room, turns);
+        return;
+    }
+    io::write_all(STDOUT_FILENO, b"bench: report or clean, and a number\n");
+}
+
+// 1 for `report`, 2 for `clean`, by the first letter; 0 for anything else.
+fn mode_of(word: &[u8], n: usize) -> usize {
+    if n == 0 {
+        return 0;
+    }
+    if word.len() == 0 {
+        return 0;
+    }
+    if word[0] == b'r' {
+        return 1;
+    }
+    if word[0] == b'c' {
+        return 2;
+    }
+    0
+}
+
+// The number that the first n bytes spell, as far as they are digits.
+fn turns_of(word: &[u8], n: usize) -> usize {
+    let mut turns: usize = 0;
+    let mut i = 0;
+    while i < n {
+        if word.len() <= i {
+            return turns;
+        }
+        let b = word[i];
+        if b < b'0' {
+            return turns;
+        }
+        if b'9' < b {
+            return turns;
+        }
+        if MOST_TURNS < turns {
+            return turns;
+        }
+        turns = turns * 10 + (b as usize - 48);
+        i += 1;
+    }
+    turns
+}
+
+fn report_turns(text: &[u8], room: &mut [u8], turns: usize) {
+    let mut left = turns;
+    while 1 < left {
+        reporting::report(text, room);
+        left -= 1;
+    }
+    if left == 0 {
+        return;
+    }
+    let r = reporting::report(text, room);
+    match r {
+        reporting::Answer::Done(m) => {
+            console::print_text(room, m);
+        }
+        reporting::Answer::Refused { number, line } => {
+            console::print_refusal(number, line);
+        }
+    }
+}
+
+fn clean_turns(text: &[u8], room: &mut [u8], turns: usize) {
+    let mut left = turns;
+    while 1 < left {
+        cleaning::clean(text, room);
+        left -= 1;
+    }
+    if left == 0 {
+        return;
+    }
+    let r = cleaning::clean(text, room);
+    match r {
+        cleaning::Answer::Done(m) => {
+            console::print_text(room, m);
+        }
+        cleaning::Answer::Refused { number, line } => {
+            console::print_refusal(number, line);
+        }
+    }
+}

@@ -1,0 +1,82 @@
+-- What the functions inside the reader promise each other, and the marks by which repeats are told. Nobody has to believe this page: the promises
+-- of `read_sheet` and `read_blank` do not speak of it. Assumes nothing: these are definitions.
+use mathlib.Core.Bool.{Bool, false, not}
+use mathlib.Core.List.{List, [], _∷_}
+use mathlib.Core.Path.{_≡_}
+use Prim.Native.Nat.{ℕ, _+_, _*_, _%_, _<_}
+use lib.ListN.{length, getD}
+use Rattle.fields.specs.Bytes.{isAction, readState}
+use Rattle.guards.specs.Guard.{Means}
+use Rattle.sheet.specs.declared.Progress.{Progress}
+use Rattle.sheet.specs.declared.LineRead.{LineRead}
+use Rattle.sheet.specs.declared.LineRead.the-variants as line
+use Rattle.sheet.specs.declared.Triple.{Triple}
+use Rattle.sheet.specs.declared.Triple.the-variants as triple
+use Rattle.sheet.specs.declared.SheetRead.{SheetRead}
+use Rattle.sheet.specs.declared.SheetRead.the-variants as whole
+use Rattle.sheet.specs.Sheet.{Move, Stop, Sheet}
+use Rattle.sheet.specs.Reading.{State, Answer, kept, refused, refuseIf, stated, moved, stopped}
+use Rattle.sheet.specs.Tables.{Tables, Filled, StandsFor}
+
+-- ---- marks: 2,048 places, of which each triple of from, action and to has one
+
+unfoldable pub mixed : ℕ → List ℕ → ℕ
+mixed h [] = h
+mixed h (b ∷ bs) = (mixed h bs * 37 + b) % 2048
+
+abbrev pub placeOf : ℕ → List ℕ → ℕ → ℕ
+placeOf from action to = mixed (from % 32 * 64 + to % 64) action
+
+-- a triple whose place has no mark has not come
+pub record Marked (seen : List ℕ) (ms : List Move) : Type 0 where
+  pub long : length seen ≡ 2048
+  pub new : (from : ℕ) (action : List ℕ) (to : ℕ) → getD seen (placeOf from action to) 0 ≡ 0 → moved from action to ms ≡ false
+
+-- the answer whether a triple has come, and the marks once it has come again
+pub record Tells (seen : List ℕ) (from : ℕ) (action : List ℕ) (to : ℕ) (ms : List Move) (r : Bool) : Type 0 where
+  pub is : r ≡ moved from action to ms
+  pub marked : (m : Move) → m .from ≡ from → m .action ≡ action → m .to ≡ to → Marked seen (m ∷ ms)
+
+-- ---- the lines, and their end
+
+-- states below 64, none twice
+abbrev pub Apart : List Stop → Type 0
+Apart [] = Unit {0}
+Apart (d ∷ ds) = (d .state < 64) × (stopped (d .state) ds ≡ false) × Apart ds
+
+-- while the lines are read: the tables and the marks stand for what the lines so far say
+pub record Stands (s : List ℕ) (T : Tables) (seen : List ℕ) (c : Progress) (st : State) : Type 0 where
+  pub section : c .section ≡ st .section
+  pub validLine : c .valid ≡ st .validLine
+  pub start : c .start ≡ st .sheet .start
+  pub valid : Means (T .valid) (st .sheet .valid)
+  pub apart : Apart (st .sheet .stops)
+  pub filled : Filled s T (c .features) (c .moves) (c .stops) (st .sheet .features) (st .sheet .moves) (st .sheet .stops)
+  pub marked : Marked seen (st .sheet .moves)
+
+-- a line reader's answer, with the tables and marks as they are then, is this answer of the definition
+abbrev pub SaysIn : List ℕ → Tables → List ℕ → LineRead → Answer State → Type 0
+SaysIn s T seen (line.Kept c) a = (st : State) × (a ≡ kept st) × Stands s T seen c st
+SaysIn s T seen (line.Refused e n) a = a ≡ refused e n
+
+pub record Says (s : List ℕ) (T : Tables) (seen : List ℕ) (r : LineRead) (a : Answer State) : Type 0 where
+  pub is : SaysIn s T seen r a
+
+-- from, action and to of a move by 4, and what follows where they are good
+abbrev pub withTriple : ℕ → List ℕ → List ℕ → List ℕ → (ℕ → ℕ → Answer State) → Answer State
+withTriple n f a t k = stated n (readState f) (λ from. refuseIf (not (isAction a)) 4 n (stated n (readState t) (λ to. k from to)))
+
+abbrev pub TripledIn : List ℕ → List ℕ → List ℕ → Triple → Type 0
+TripledIn f a t (triple.Good from to) = (n : ℕ) (k : ℕ → ℕ → Answer State) → withTriple n f a t k ≡ k from to
+TripledIn f a t triple.Bad = (n : ℕ) (k : ℕ → ℕ → Answer State) → withTriple n f a t k ≡ refused 4 n
+
+pub record Tripled (f a t : List ℕ) (r : Triple) : Type 0 where
+  pub is : TripledIn f a t r
+
+-- the answer at the end of the lines, with the tables as they are then, is this answer of the definition
+abbrev pub EndsIn : List ℕ → Tables → SheetRead → Answer Sheet → Type 0
+EndsIn s T (whole.Kept c) a = (r : Sheet) × (a ≡ kept r) × StandsFor s T c r
+EndsIn s T (whole.Refused e n) a = a ≡ refused e n
+
+pub record Ends (s : List ℕ) (T : Tables) (r : SheetRead) (a : Answer Sheet) : Type 0 where
+  pub is : EndsIn s T r a

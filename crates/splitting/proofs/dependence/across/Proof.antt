@@ -1,0 +1,42 @@
+-- `across` meets its contract. The loop's invariant: the words so far. Assumes nothing.
+use Prim.Native.Nat.{_-_}
+use Rattle.splitting.proofs.Marks.{step-small, Across, across-none, across-more, across-all}
+use borrow.Author.Needs.{needs}
+use Rattle.splitting.proofs.dependence.across.Statement.{statement}
+use Rattle.splitting.proofs.dependence.across.Tie as tie
+
+abbrev Inv-loop : tie.InvT-loop
+Inv-loop set i step r₀ w₀ r w = Across set i r w
+
+abbrev μ-loop : tie.MeasureT-loop
+μ-loop set i step r₀ w₀ r w = 16 - w
+
+loop-holds : tie.Need-loop-holds Inv-loop μ-loop
+loop-holds c = across-none _ _
+
+shr-r : tie.Need-shr-r Inv-loop μ-loop
+shr-r c = step-small _ (c .before .before .before .before .pre)
+
+loop-again : tie.Need-loop-again Inv-loop μ-loop
+loop-again c = across-more (c .before .before .before .loop .inv) (c .before .before .before .before .pre) (c .before .before .loop-test .taken)
+
+returns : tie.Need-returns Inv-loop μ-loop
+returns c = across-all (c .before .loop .inv) (c .loop-test .left)
+
+pub across-spec : {M : Type 1} → statement M
+across-spec =
+    tie.close
+    (tie.spec
+    Inv-loop
+    μ-loop
+    (λ c. search needs)
+    loop-holds
+    (λ c. search needs)
+    (λ c. search needs)
+    (λ c. search needs)
+    (λ c. search needs)
+    shr-r
+    (λ c. search needs)
+    (λ c. search needs)
+    loop-again
+    returns)

@@ -1,0 +1,130 @@
+// On which features a set depends, once the earlier ones are decided: a table made once for a set.
+ghost use mathlib.Core.Path.{_≡_};
+ghost use Prim.Native.Nat.{ℕ, _+_, _^_, _<_, _≤_};
+ghost use lib.Dec.{eqb};
+ghost use lib.ListN.{getD};
+ghost use Rattle.products.specs.Sets.{bit};
+ghost use Rattle.splitting.specs.Splitting.{inSet, all, Tells, Word, Level, First};
+
+// Bit 2 ^ i + c of the table is 1 exactly if the set depends on feature i among the products whose
+// first i features make the number c.
+pub(crate) fn table(set: &[u64; 16]) -> [u64; 16]
+    ensures { λ r. ⌜ Tells (now (set .entry)) r ⌝ }
+{
+    let mut t = [0u64; 16];
+    t[0] = first_word(set);
+    let mut w = 1;
+    while w < 16 {
+        t[w] = later_word(set, w);
+        w += 1;
+    }
+    t
+}
+
+// The first feature from i on, and before n, that the table marks for the choices made; else n.
+pub(crate) fn first(table: &[u64; 16], n: usize, i: usize, chosen: usize) -> usize
+    requires { ⌜ (n ≤ 10) × (i ≤ n) × (chosen < 2 ^ i) ⌝ }
+    ensures { λ r. ⌜ (i ≤ r) × (r ≤ n) × First (now (table .entry)) n i chosen r ⌝ }
+{
+    let mut j = i;
+    while j < n {
+        if marked(table, (1usize << j) + chosen) {
+            return j;
+        }
+        j += 1;
+    }
+    j
+}
+
+// Whether bit p of the words is 1.
+pub(crate) fn marked(words: &[u64; 16], p: usize) -> bool
+    requires { ⌜ p < 1024 ⌝ }
+    ensures { λ r. ⌜ r ≡ inSet (now (words .entry)) p ⌝ }
+{
+    (words[p / 64] >> (p % 64)) % 2 == 1
+}
+
+// Word 0 of the table: features 0 to 5, the bits of each behind those of the one before.
+fn first_word(set: &[u64; 16]) -> u64
+    ensures { λ r. ⌜ Word (now (set .entry)) 0 r ⌝ }
+{
+    let a = low_level(set, 0) % 2 * 2;
+    let b = a + low_level(set, 1) % 4 * 4;
+    let c = b + low_level(set, 2) % 16 * 16;
+    let d = c + low_level(set, 3) % 256 * 256;
+    let e = d + low_level(set, 4) % 65536 * 65536;
+    e + low_level(set, 5) % 4294967296 * 4294967296
+}
+
+// Feature i below 6: whatever the later features are, brought together on the first bits.
+fn low_level(set: &[u64; 16], i: usize) -> u64
+    requires { ⌜ i < 6 ⌝ }
+    ensures { λ r. ⌜ Level (now (set .entry)) i r ⌝ }
+{
+    let mut r = across(set, i);
+    let mut j = 5;
+    while i < j {
+        r = r | (r >> (1u64 << j));
+        j -= 1;
+    }
+    r
+}
+
+// Bit k: in some word bits k and k + 2 ^ i differ.
+fn across(set: &[u64; 16], i: usize) -> u64
+    requires { ⌜ i < 6 ⌝ }
+    ensures { λ r. ⌜ ((k : ℕ) → eqb (bit r k) 0 ≡ all (λ w. eqb (bit (getD (now (set .entry)) w 0) k) (bit (getD (now (set .entry)) w 0) (2 ^ i + k))) 16) ⌝ }
+{
+    let step = 1u64 << i;
+    let mut r = 0u64;
+    let mut w = 0;
+    while w < 16 {
+        r = r | (set[w] ^ (set[w] >> step));
+        w += 1;
+    }
+    r
+}
+
+// Word w of the table from 1 on: features 6 to 9, which tell whole words apart.
+fn later_word(set: &[u64; 16], w: usize) -> u64
+    requires { ⌜ (1 ≤ w) × (w < 16) ⌝ }
+    ensures { λ r. ⌜ Word (now (set .entry)) w r ⌝ }
+{
+    if w < 2 {
+        return level_six(set);
+    }
+    if w < 4 {
+        return level_seven(set, w - 2);
+    }
+    if w < 8 {
+        return level_eight(set, w - 4);
+    }
+    set[w - 8] ^ set[w]
+}
+
+// Feature 6: words 1 apart.
+fn level_six(set: &[u64; 16]) -> u64
+    ensures { λ r. ⌜ Word (now (set .entry)) 1 r ⌝ }
+{
+    let a = (set[0] ^ set[1]) | (set[2] ^ set[3]);
+    let b = a | (set[4] ^ set[5]) | (set[6] ^ set[7]);
+    let c = b | (set[8] ^ set[9]) | (set[10] ^ set[11]);
+    c | (set[12] ^ set[13]) | (set[14] ^ set[15])
+}
+
+// Feature 7: words 2 apart.
+fn level_seven(set: &[u64; 16], c: usize) -> u64
+    requires { ⌜ c < 2 ⌝ }
+    ensures { λ r. ⌜ Word (now (set .entry)) (2 + c) r ⌝ }
+{
+    let a = (set[c] ^ set[c + 2]) | (set[c + 4] ^ set[c + 6]);
+    a | (set[c + 8] ^ set[c + 10]) | (set[c + 12] ^ set[c + 14])
+}
+
+// Feature 8: words 4 apart.
+fn level_eight(set: &[u64; 16], c: usize) -> u64
+    requires { ⌜ c < 4 ⌝ }
+    ensures { λ r. ⌜ Word (now (set .entry)) (4 + c) r ⌝ }
+{
+    (set[c] ^ set[c + 4]) | (set[c + 8] ^ set[c + 12])
+}
