@@ -1,7 +1,6 @@
 -- The form that the tables, the states' sets and the ordered rows make is the clean form: each line of it is for a row, the rows stand in the order
 -- of their keys, and the sets have the products that the clean sheet speaks of. Assumes nothing.
-use mathlib.Core.Path.{_≡_, refl, sym, ap, _∙_}
-use mathlib.Core.Bool.{Bool, true, false}
+use mathlib.Core.Path.{_≡_, sym, ap, _∙_}
 use mathlib.Core.List.{List, List·Memᴰ}
 use Prim.Native.Nat.{ℕ, _%_, _<_, _≤_, min}
 use native.Mathlib.Omega.{arith}
@@ -12,7 +11,7 @@ use Rattle.guards.specs.Reading.{namesOf}
 use Rattle.sheet.specs.declared.Counts.{Counts}
 use Rattle.sheet.specs.Sheet.{Move, Sheet, names, isValid}
 use Rattle.sheet.specs.Tables.{Rows, none, next, Tables}
-use Rattle.sheet.proofs.Rows.{rows-keep, rows-of, names-of}
+use Rattle.sheet.proofs.Rows.{rows-keep, rows-of, names-of, rows-in}
 use Rattle.family.specs.Ways.{Valid}
 use Rattle.family.proofs.Meaning.{reached-state}
 use Rattle.splitting.specs.Splitting.{inSet, guardOf, Writes}
@@ -22,13 +21,9 @@ use Rattle.ordering.proofs.Laws.{orders-few, orders-low, orders-has, orders-pla
 use Rattle.normal.specs.Behaviour.{Goes}
 use Rattle.normal.specs.Clean.{count, keyOf, Kept, GuardFor, Rising, MoveBefore, Clean}
 use Rattle.cleaning.specs.Forms.{RowMove, FormOf, Ready}
-use Rattle.cleaning.proofs.Once.{rows-in}
 use Rattle.cleaning.proofs.Made.{RowFor, all-rows, few-rows, all-features, small, row-at, row-of, key-row, row-once, row-kept, kept-row, guard-for, makes-goes}
 use Rattle.cleaning.proofs.Stopped.{stops-good, stops-found, stops-rising}
-
-one-true : (b : Bool) → oneIf b ≡ 1 → b ≡ true
-one-true true e = refl
-one-true false e = absurd (omega arith)
+use Rattle.products.proofs.Laws.{one-true}
 
 -- the move m is for row k: it has its triple, which is kept, and the guard that the clean sheet writes
 pub record LineFor (s : List ℕ) (T : Tables) (r : Sheet) (k : ℕ) (m : Move) : Type 0 where

@@ -2,9 +2,9 @@
 -- So a row is kept exactly if its triple is, and its guard is the one that the clean sheet writes. Assumes nothing.
 use mathlib.Core.Path.{_≡_, refl, sym, ap, _∙_}
 use mathlib.Core.Bool.{Bool, true, false, not, _&&_, and-eq-true-iff}
-use mathlib.Core.Logic.{_⊎_, inl, inr, ⊎-elim}
-use mathlib.Core.List.{List, [], _∷_, List·Memᴰ, List·Memᴰ·head, List·Memᴰ·tail}
-use Prim.Native.Nat.{ℕ, zero, suc, _%_, _^_, _<_, _≤_, min}
+use mathlib.Core.Logic.{_⊎_, inl, inr}
+use mathlib.Core.List.{List, [], _∷_, List·Memᴰ}
+use Prim.Native.Nat.{ℕ, _%_, _^_, _<_, _≤_, min}
 use native.Mathlib.Omega.{arith}
 use borrow.Author.Tests.{eqb-true, eqb-false, eq-eqb, ne-eqb, not-true}
 use lib.ListN.{length, getD}
@@ -15,23 +15,23 @@ use Rattle.fields.specs.Bytes.{pieceOf}
 use Rattle.guards.specs.Guard.{Guard, holds, Means}
 use Rattle.sheet.specs.declared.Counts.{Counts}
 use Rattle.sheet.specs.Sheet.{Move, Sheet}
-use Rattle.sheet.specs.Accepted.{GoodMove, GoodMoves, Accepted}
+use Rattle.sheet.specs.Accepted.{Accepted}
 use Rattle.sheet.specs.Tables.{Tables, Rows, MoveRow}
-use Rattle.sheet.proofs.Rows.{rows-of, rows-length, piece-lies}
+use Rattle.sheet.proofs.Rows.{rows-of, rows-length, piece-lies, rows-both, rows-in}
 use Rattle.family.specs.Ways.{Valid, Reached}
 use Rattle.verdicts.specs.Judging.{InBoth, InOnly}
 use Rattle.verdicts.specs.Verdicts.{Makes, MadeIn, MissedIn}
 use Rattle.verdicts.proofs.Agreeing.{Agree}
-use Rattle.verdicts.proofs.Shown.{rows-both}
 use Rattle.verdicts.proofs.Meaning.{made-agree, missed-agree}
 use Rattle.splitting.specs.Splitting.{inSet}
 use Rattle.splitting.proofs.Laws.{writes-of}
 use Rattle.ordering.specs.Ordering.{rowKey, keyAt, MadeRow}
-use Rattle.ordering.proofs.Laws.{key-at}
+use Rattle.ordering.proofs.Laws.{key-at, compared}
 use Rattle.normal.specs.Behaviour.{Goes}
 use Rattle.normal.specs.Clean.{count, keyOf, GoesIn, Kept, GuardFor}
 use Rattle.cleaning.specs.Forms.{MadeGuard, full, split, Ready}
-use Rattle.cleaning.proofs.Once.{SameTriple, one-only, rows-in, rows-once}
+use Rattle.cleaning.proofs.Once.{SameTriple, one-only, rows-once}
+use Rattle.sheet.proofs.Accepted.{good-move}
 
 -- ---- sets as questions
 
@@ -54,10 +54,6 @@ pub only-in : (a b : List ℕ) (p : ℕ) → InOnly a b p → (inSet a p && not 
 only-in a b p i = let z = i .second in rw (eq-eqb (has a p) 1 (i .first .is), ne-eqb (has b p) 1 (λ e. omega arith))
 
 -- ---- moves and triples
-
-good-move : {n : ℕ} {ms : List Move} {m : Move} → GoodMoves n ms → List·Memᴰ m ms → GoodMove n m
-good-move {n} g (List·Memᴰ·head e) = rw e (g .0)
-good-move g (List·Memᴰ·tail i) = good-move (g .2) i
 
 -- a valid product reaches the source and does not make the triple
 pub record Misses (r : Sheet) (f : ℕ) (a : List ℕ) (t p : ℕ) : Type 0 where
@@ -100,12 +96,6 @@ pub record RowFor (s : List ℕ) (T : Tables) (r : Sheet) (k : ℕ) (m : Move) :
   pub action : pieceOf s (getD (getD (T .moves) k []) 2 0) (getD (getD (T .moves) k []) 3 0) ≡ m .action
   pub to : getD (getD (T .moves) k []) 4 0 ≡ m .to
   pub guard : Means (getD (T .moveGuards) k []) (m .guard)
-
-compared : (x y : ℕ) → (x < y) ⊎ ((x ≡ y) ⊎ (y < x))
-compared zero zero = inr (inl refl)
-compared zero (suc y) = inl (omega arith)
-compared (suc x) zero = inr (inr (omega arith))
-compared (suc x) (suc y) = ⊎-elim (λ h. inl (omega arith)) (λ g. inr (⊎-elim (λ e. inl (ap suc e)) (λ h. inr (omega arith)) g)) (compared x y)
 
 pub agree-then : {P Q R : ℕ → Type 0} → Agree P Q → Agree Q R → Agree P R
 agree-then a b = record { there = λ p i. b .there p (a .there p i); back = λ p i. a .back p (b .back p i) }

@@ -12,18 +12,16 @@ use Rattle.normal.proofs.Unique.{is-clean-unique}
 use Rattle.cleaning.specs.declared.Answer.{Answer}
 use Rattle.cleaning.specs.declared.Answer.the-variants.{Done, Refused}
 use Rattle.cleaning.specs.Promise.{TooLong, Cleaned, CleanPromise}
+use Rattle.sheet.proofs.Accepted.{kept-refused}
 
 module _ (s : List ℕ) where
   -- two clean sheets of what s reads as are one text
   same-text : {q r : Sheet} {x y : List ℕ} → readSheet s ≡ kept q → readSheet s ≡ kept r → IsClean q x → IsClean r y → x ≡ y
   same-text {q} {r} {x} {y} a b i j = let e : q ≡ r = cc in is-clean-unique (rw e at i) j
 
-  kept-refused : {r : Sheet} {e n : ℕ} → readSheet s ≡ kept r → readSheet s ≡ refused e n → ⊥
-  kept-refused a b = let z : _≡_ {A = ℕ} 0 1 = cc in omega arith
-
   -- no sheet is both cleaned and refused
   cleaned-refused : {room x : List ℕ} {m e n : ℕ} → Cleaned s room x m → (readSheet s ≡ refused e n) ⊎ TooLong s room e n → ⊥
-  cleaned-refused p (inl q) = kept-refused (p .accepted) q
+  cleaned-refused p (inl q) = kept-refused s (p .accepted) q
   cleaned-refused {room} p (inr q) = too-long (ap length (same-text (p .accepted) (q .accepted) (p .clean) (q .clean))) (q .longer)
     where
       too-long : length (p .text) ≡ length (q .text) → (65536 < length (q .text)) ⊎ (length room < length (q .text)) → ⊥
@@ -33,8 +31,8 @@ module _ (s : List ℕ) where
   -- a refusal has one number and one line
   refused-once : {room : List ℕ} {d m e n : ℕ} → (readSheet s ≡ refused d m) ⊎ TooLong s room d m → (readSheet s ≡ refused e n) ⊎ TooLong s room e n → Refused d m ≡ Refused e n
   refused-once (inl p) (inl q) = cc
-  refused-once (inl p) (inr q) = absurd (kept-refused (q .accepted) p)
-  refused-once (inr p) (inl q) = absurd (kept-refused (p .accepted) q)
+  refused-once (inl p) (inr q) = absurd (kept-refused s (q .accepted) p)
+  refused-once (inr p) (inl q) = absurd (kept-refused s (p .accepted) q)
   refused-once (inr p) (inr q) = cc
 
 -- any two answers with their rooms that meet the promise are equal

@@ -8,9 +8,9 @@ use native.Mathlib.Omega.{arith}
 use lib.ListN.{length, take, drop}
 use lib.Seq.{take-append-seam}
 use Rattle.sheet.specs.Sheet.{Sheet, names}
-use Rattle.sheet.specs.Reading.{kept, refused, readSheet}
+use Rattle.sheet.specs.Reading.{kept, readSheet}
 use Rattle.sheet.specs.Accepted.{Accepted}
-use Rattle.sheet.proofs.Accepted.{accepted}
+use Rattle.sheet.proofs.Accepted.{accepted, kept-refused}
 use Rattle.sheet.proofs.ReadBack.{alike-names, alike-back}
 use Rattle.reporting.specs.declared.Answer.{Answer}
 use Rattle.reporting.specs.declared.Answer.the-variants.{Done}
@@ -97,9 +97,6 @@ cleaned-sheet s room x n h =
 own : (s u x : List ℕ) (m : ℕ) → CleanPromise s u x (cleaned.Done m)
     → (c : Sheet) × (readSheet (take m x) ≡ kept c) × Faultless _≤_ c × IsClean c (take m x) × ((y : List ℕ) → IsClean c y → y ≡ take m x)
 own s u x m h = let a = cleaned-sheet s u x m h in clean-is-clean s (take m x) (a .0) (a .1) (a .2) (a .3)
-
-kept-refused : (s : List ℕ) {r : Sheet} {e n : ℕ} → readSheet s ≡ kept r → readSheet s ≡ refused e n → ⊥
-kept-refused s a b = let z : _≡_ {A = ℕ} 0 1 = cc in omega arith
 
 kept-one : (s : List ℕ) {q r : Sheet} → readSheet s ≡ kept q → readSheet s ≡ kept r → q ≡ r
 kept-one s a b = cc

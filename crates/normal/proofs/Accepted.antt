@@ -17,6 +17,7 @@ use Rattle.splitting.proofs.Laws.{guard-declared, guard-nesting}
 use Rattle.normal.specs.Clean.{count, Kept, GuardFor, Rising, keyOf, MoveBefore, StopBefore, Clean}
 use Rattle.normal.proofs.Once.{not-longer, key-of, before-other, moved-once, stopped-once}
 use Rattle.normal.proofs.Kept.{clean-count, clean-same}
+use Rattle.sheet.proofs.Accepted.{good-move}
 
 -- ---- guards
 
@@ -31,10 +32,6 @@ unfolding Declared nesting
 always-good n = record { declared = tt; nested = omega arith }
 
 -- ---- lists
-
-good-move : {n : ℕ} {ms : List Move} {m : Move} → GoodMoves n ms → List·Memᴰ m ms → GoodMove n m
-good-move {n} g (List·Memᴰ·head e) = rw e (g .0)
-good-move g (List·Memᴰ·tail i) = good-move (g .2) i
 
 pub good-moves : {n : ℕ} (ms : List Move) → Rising MoveBefore ms → ((m : Move) → List·Memᴰ m ms → GoodMove n m) → GoodMoves n ms
 good-moves [] r f = tt

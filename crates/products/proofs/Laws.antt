@@ -1,7 +1,7 @@
 -- Laws of sets of products, for those who use them: what membership and counts are, whatever the set. Assumes nothing.
 use mathlib.Core.Path.{_≡_, refl, sym, _∙_}
 use mathlib.Core.List.{List}
-use mathlib.Core.Bool.{false}
+use mathlib.Core.Bool.{Bool, true, false}
 use Prim.Native.Nat.{ℕ, zero, suc, _+_, _*_, _/_, _%_, _^_, _<_, _≤_}
 use native.Mathlib.Omega.{arith}
 use native.Mathlib.Numerals.{add-one}
@@ -11,7 +11,7 @@ use lib.Count.{ones}
 use lib.Dec.{eqb}
 use lib.ListN.{getD, length, replicate, getD-replicate, List·getD-eq-default}
 use lib.Seq.{ext-getD}
-use Rattle.products.specs.Sets.{bit, has, countTo, Words}
+use Rattle.products.specs.Sets.{bit, has, oneIf, countTo, Words}
 use Rattle.products.proofs.Bits.{eq-bits, zero-bit, ones-bit, bits, ones-bits}
 
 -- membership is 0 or 1
@@ -83,3 +83,7 @@ pub count-word : (s : List ℕ) (w : ℕ) → getD s w 0 < 2 ^ 64 → countTo s 
 count-word s w lt =
     let e : (w + 1) * 64 ≡ w * 64 + 64 = omega arith in
     rw e (omega (arith, count-bits s w 64 (omega arith), ones-bits 64 (getD s w 0) lt))
+
+pub one-true : (b : Bool) → oneIf b ≡ 1 → b ≡ true
+one-true true e = refl
+one-true false e = absurd (omega arith)

@@ -25,9 +25,10 @@ use Rattle.verdicts.specs.declared.StopVerdict.{StopVerdict}
 use Rattle.verdicts.specs.Verdicts.{JudgedAs, StopAs, Named}
 use Rattle.verdicts.specs.Judging.{MoveSets, StateSets, StopSets, guardsAt, rowAt}
 use Rattle.verdicts.proofs.Shown.{Tells, guards-none}
-use Rattle.verdicts.proofs.Meaning.{good-move, good-stop, named-means, count-judged, move-judged, state-judged, stop-judged}
+use Rattle.verdicts.proofs.Meaning.{named-means, count-judged, move-judged, state-judged, stop-judged}
 use Rattle.reporting.specs.Report.{moveRow, stateRow, stopRow, MoveRows, StateRows, StopRows}
 use Rattle.reporting.specs.Promise.{Ready, Outward, Told}
+use Rattle.sheet.proofs.Accepted.{good-move, good-stop}
 
 -- ---- one row more
 

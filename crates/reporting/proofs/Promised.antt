@@ -1,5 +1,5 @@
 -- What `report` promises determines its answer and the room: reading is a function, and only one text is a sheet's report. Assumes nothing.
-use mathlib.Core.Path.{_≡_, refl, sym, ap, _∙_}
+use mathlib.Core.Path.{_≡_, sym, ap, _∙_}
 use mathlib.Core.List.{List}
 use mathlib.Core.Logic.{_⊎_, inl, inr}
 use Prim.Native.Nat.{ℕ, _≤_}
@@ -12,18 +12,16 @@ use Rattle.reporting.specs.declared.Answer.the-variants.{Done, Refused}
 use Rattle.reporting.specs.Report.{IsReport}
 use Rattle.reporting.specs.Promise.{TooLong, Reported, ReportPromise}
 use Rattle.reporting.proofs.Determined.{report-determined}
+use Rattle.sheet.proofs.Accepted.{kept-refused}
 
 module _ (s : List ℕ) where
   -- two reports of what s reads as are one text
   same-text : {q r : Sheet} {x y : List ℕ} → readSheet s ≡ kept q → readSheet s ≡ kept r → IsReport _≤_ q x → IsReport _≤_ r y → x ≡ y
   same-text {q} {r} {x} {y} a b i j = let e : q ≡ r = cc in report-determined x y (rw e at i) j
 
-  kept-refused : {r : Sheet} {e n : ℕ} → readSheet s ≡ kept r → readSheet s ≡ refused e n → ⊥
-  kept-refused a b = let z : _≡_ {A = ℕ} 0 1 = cc in omega arith
-
   -- no sheet is both reported and refused
   reported-refused : {room x : List ℕ} {m e n : ℕ} → Reported s room x m → (readSheet s ≡ refused e n) ⊎ TooLong s room e n → ⊥
-  reported-refused p (inl q) = kept-refused (p .accepted) q
+  reported-refused p (inl q) = kept-refused s (p .accepted) q
   reported-refused p (inr q) =
       let z = ap length (same-text (p .accepted) (q .accepted) (p .report) (q .report)) in
       omega (arith, p .fits, q .longer)
@@ -31,8 +29,8 @@ module _ (s : List ℕ) where
   -- a refusal has one number and one line
   refused-once : {room : List ℕ} {d m e n : ℕ} → (readSheet s ≡ refused d m) ⊎ TooLong s room d m → (readSheet s ≡ refused e n) ⊎ TooLong s room e n → Refused d m ≡ Refused e n
   refused-once (inl p) (inl q) = cc
-  refused-once (inl p) (inr q) = absurd (kept-refused (q .accepted) p)
-  refused-once (inr p) (inl q) = absurd (kept-refused (p .accepted) q)
+  refused-once (inl p) (inr q) = absurd (kept-refused s (q .accepted) p)
+  refused-once (inr p) (inl q) = absurd (kept-refused s (p .accepted) q)
   refused-once (inr p) (inr q) = cc
 
 -- any two answers with their rooms that meet the promise are equal

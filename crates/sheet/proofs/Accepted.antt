@@ -2,7 +2,7 @@
 -- limits, and no move or stop stands before the last feature; so the numbers of features in guards stay declared. Assumes nothing.
 use mathlib.Core.Path.{_≡_, refl, sym}
 use mathlib.Core.Bool.{Bool, true, false, not, _&&_, and-eq-true-iff, false≢true}
-use mathlib.Core.List.{List, [], _∷_}
+use mathlib.Core.List.{List, [], _∷_, List·Memᴰ, List·Memᴰ·head, List·Memᴰ·tail}
 use Prim.Native.Nat.{ℕ, suc, _+_, _^_, _≤_, _<_}
 use native.Mathlib.Omega.{arith}
 use borrow.Author.Tests.{leb-true, leb-false, le-leb, not-false}
@@ -20,9 +20,9 @@ use Rattle.values.proofs.States.{state-small, state-written}
 use Rattle.guards.specs.Guard.{Guard, never, holds, print, Declared, nesting}
 use Rattle.guards.specs.Reading.{Outcome, took, faulty, number, readWhole, GoodNames}
 use Rattle.guards.proofs.Exactly.{whole-exactly, whole-faulty}
-use Rattle.sheet.specs.Sheet.{Feature, Sheet, names, isValid}
+use Rattle.sheet.specs.Sheet.{Feature, Move, Stop, Sheet, names, isValid}
 use Rattle.sheet.specs.Reading.{State, Answer, kept, refused, refuseIf, stated, guarded, goOn, isKnown, moved, stopped, editionWord, ftsLine, featureLine, validLine, startLine, guardedMove, moveLine, stopLine, kindIn, byKind, byWord, readLine, none, ended, readLines, nothing, last, readSheet}
-use Rattle.sheet.specs.Accepted.{GoodGuard, GoodMoves, GoodStops, Accepted}
+use Rattle.sheet.specs.Accepted.{GoodGuard, GoodMove, GoodMoves, GoodStop, GoodStops, Accepted}
 use Rattle.sheet.proofs.Rows.{names-length}
 use Rattle.sheet.proofs.LineKinds.{by-kind}
 use Rattle.sheet.proofs.ValidProducts.{some, valid-both}
@@ -253,3 +253,16 @@ valid-small {r} {p} ok e =
     let k = valid-both r p e in
     let most : 2 ^ length (r .features) ≤ 1024 = pow-mono (ok .few-features) in
     (k .0, k .1, omega arith)
+
+-- a move of the sheet is good, and so is a stop line
+pub good-move : {n : ℕ} {ms : List Move} {m : Move} → GoodMoves n ms → List·Memᴰ m ms → GoodMove n m
+good-move {n} g (List·Memᴰ·head e) = rw e (g .0)
+good-move g (List·Memᴰ·tail i) = good-move (g .2) i
+
+pub good-stop : {n : ℕ} {ds : List Stop} {d : Stop} → GoodStops n ds → List·Memᴰ d ds → GoodStop n d
+good-stop {n} g (List·Memᴰ·head e) = rw e (g .0)
+good-stop g (List·Memᴰ·tail i) = good-stop (g .2) i
+
+-- no sheet is both kept and refused
+pub kept-refused : (s : List ℕ) {r : Sheet} {e n : ℕ} → readSheet s ≡ kept r → readSheet s ≡ refused e n → ⊥
+kept-refused s a b = let z : _≡_ {A = ℕ} 0 1 = cc in omega arith

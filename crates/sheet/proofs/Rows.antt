@@ -2,7 +2,7 @@
 -- each law serves every table. Assumes nothing.
 use mathlib.Core.Path.{_≡_, refl, sym, ap, ap₂, _∙_}
 use mathlib.Core.Logic.{⊎-elim}
-use mathlib.Core.List.{List, [], _∷_, _++_, List·Memᴰ, List·Memᴰ·head, List·Memᴰ·tail}
+use mathlib.Core.List.{List, [], _∷_, _++_, List·Memᴰ, List·Memᴰ·head, List·Memᴰ·tail, Memᴰ·append-right}
 use Prim.Native.Nat.{ℕ, suc, _+_, _-_, _<_}
 use native.Mathlib.Nat.{eq-or-lt-of-le}
 use native.Mathlib.Numerals.{add-one}
@@ -90,3 +90,15 @@ pub names-of : (s : List ℕ) (t : List (List ℕ)) {k : ℕ} {fs : List Feature
 unfolding namesOf names
 names-of s t none = refl
 names-of s t (next r rs) = ap₂ (λ (x : List ℕ) (xs : List (List ℕ)). x ∷ xs) (names-piece r) (names-of s t rs)
+
+-- rows for one list in two ways are rows for it in both
+pub rows-both : {A : Type 0} {R S : ℕ → A → Type 0} {k : ℕ} {xs : List A} → Rows R k xs → Rows S k xs → Rows (λ i x. R i x × S i x) k xs
+rows-both none none = none
+rows-both (next a rs) (next b ss) = next (a, b) (rows-both rs ss)
+
+-- the line that row i is for
+pub rows-in : {A : Type 0} {R : ℕ → A → Type 0} {k : ℕ} {xs : List A} {i : ℕ} → Rows R k xs → i < k → (x : A) × List·Memᴰ x xs × R i x
+rows-in {A} {R} {k} {xs} {i} h l = at (rows-at h l)
+  where
+    at : (zs : List A) × (x : A) × (ys : List A) × (xs ≡ zs ++ x ∷ ys) × (length ys ≡ i) × R i x → (x : A) × List·Memᴰ x xs × R i x
+    at (zs, x, ys, e, n, y) = (x, rw e (Memᴰ·append-right zs (List·Memᴰ·head refl)), y)

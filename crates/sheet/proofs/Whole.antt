@@ -12,7 +12,7 @@ use lib.Pow.{pow-mono}
 use Rattle.products.specs.declared.Found.{Found}
 use Rattle.products.specs.declared.Found.the-variants.{At, Nothing}
 use Rattle.products.specs.Sets.{has, oneIf, In, Finds}
-use Rattle.products.proofs.Laws.{empty-has}
+use Rattle.products.proofs.Laws.{empty-has, one-true}
 use Rattle.fields.specs.Bytes.{part, FirstAt}
 use Rattle.fields.specs.Cutting.{lines, fields}
 use Rattle.fields.proofs.Parts.{part-length, part-rest}
@@ -92,10 +92,6 @@ one-and true true = refl
 one-and true false = refl
 one-and false true = refl
 one-and false false = refl
-
-one-true : (b : Bool) → oneIf b ≡ 1 → b ≡ true
-one-true true e = refl
-one-true false e = absurd (omega arith)
 
 one-false : (b : Bool) → (oneIf b ≡ 1 → ⊥) → b ≡ false
 one-false true f = absurd (f refl)
