@@ -1,11 +1,11 @@
 -- A set that is filled word by word from the first: the one invariant of every function that makes a set, its step for each operation on
 -- words, and what it says at the end. Assumes nothing.
-use mathlib.Core.Path.{_≡_}
+use mathlib.Core.Path.{_≡_, refl}
 use mathlib.Core.List.{List}
 use Prim.Native.Nat.{ℕ, _+_, _*_, _/_, _%_, _<_, _≤_}
 use native.Mathlib.Omega.{arith}
 use borrow.Author.Count.{below-more}
-use lib.ListN.{getD, length, set, length-set}
+use lib.ListN.{getD, length, replicate, set, length-set, getD-replicate}
 use lib.Seq.{getD-set-same, getD-set-other}
 use Rattle.products.specs.Sets.{bit, has}
 use Rattle.products.proofs.Laws.{has-at}
@@ -34,6 +34,10 @@ unfolding has
 filled-has h le p lt =
     let e : p / 64 * 64 + p % 64 ≡ p = omega arith in
     rw e at (h .words (p / 64) (omega arith) (p % 64) (omega arith))
+
+-- the same word throughout
+pub filled-alike : {f : ℕ → ℕ} (x : ℕ) → ((w k : ℕ) → k < 64 → bit x k ≡ f (w * 64 + k)) → Filled f (replicate 16 x) 16
+filled-alike x e = record { most = omega arith; long = refl; words = λ w lw k lk. rw (getD-replicate 16 w x 0 lw) (e w k lk) }
 
 -- one word more, by an operation op on words that does to each bit what on says; an operation on two sets leaves the third unused
 module _ (op on : ℕ → ℕ → ℕ → ℕ) (law : (x y z k : ℕ) → bit (op x y z) k ≡ on (bit x k) (bit y k) (bit z k)) where

@@ -2,7 +2,7 @@
 // speaks of all 1,024 products of ten features; `all` gives those of fewer. Nothing here knows of
 // guards, sheets or names.
 ghost use mathlib.Core.Path.{_≡_};
-ghost use Prim.Native.Nat.{ℕ, _+_, _-_, _*_, _<_, _^_, min, max};
+ghost use Prim.Native.Nat.{ℕ, _+_, _-_, _*_, _<_, _≤_, _^_, min, max};
 ghost use lib.Dec.{ltb};
 ghost use Rattle.products.specs.Sets.{bit, has, oneIf};
 
@@ -73,14 +73,11 @@ const MASKS: [u64; 6] = [
     0xffff_ffff_0000_0000,
 ];
 
-// Word w of the set of the products that have feature i.
+// Word w of the set of the products that have feature i, from 6 on: whole words have it or have not.
 fn feature_word(i: usize, w: usize) -> u64
-    requires { ⌜ w < 16 ⌝ }
+    requires { ⌜ (w < 16) × (6 ≤ i) ⌝ }
     ensures { λ r. ⌜ ((k : ℕ) → k < 64 → bit r k ≡ bit (w * 64 + k) i) ⌝ }
 {
-    if i < 6 {
-        return MASKS[i];
-    }
     if 10 <= i {
         return 0;
     }
@@ -94,6 +91,10 @@ fn feature_word(i: usize, w: usize) -> u64
 pub fn feature(i: usize) -> [u64; 16]
     ensures { λ r. ⌜ ((p : ℕ) → p < 1024 → has r p ≡ bit p i) ⌝ }
 {
+    if i < 6 {
+        let mask = MASKS[i];
+        return [mask; 16];
+    }
     let mut r = [0u64; 16];
     let mut w = 0;
     while w < 16 {
