@@ -122,6 +122,9 @@ module _ {here guard : List ℕ} (names : List (List ℕ)) {n : ℕ} (h : n ≤ 
 -- ---- the stop lines of a state
 
 module _ {here out : List ℕ} (names : List (List ℕ)) {n q : ℕ} {l : List ℕ} {at : ℕ} where
+  pub stop-idle : ((p : ℕ) → p < 1024 → has out p ≡ 0) → length l ≤ limit → (ds : List Stop) × StopAt n here out q ds × Wrote l at (linesOf (stopRow names) ds) l at
+  stop-idle none h = ([], StopAt.dead (λ p i. omega (arith, none p (i .first .small), i .second)), rw (lines-none (stopRow names)) (wrote-none h))
+
   pub stop-dead : (both : List ℕ) → ((p : ℕ) → p < 1024 → has both p ≡ min (has here p) (has out p)) → (f : Found) → Finds _≤_ (In both) f → f ≡ Nothing → length l ≤ limit
       → (ds : List Stop) × StopAt n here out q ds × Wrote l at (linesOf (stopRow names) ds) l at
   stop-dead both b f k e h = ([], StopAt.dead (none-as (both-agree b) (found-none _≤_ (In both) k e)), rw (lines-none (stopRow names)) (wrote-none h))

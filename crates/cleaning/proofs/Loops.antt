@@ -1,12 +1,13 @@
 -- The loops of lines. One record for each loop: the moves, or the stops, of which the lines were laid, and how they come from the rows so far. The
 -- lists have the last line first, so one line more is one element more in front. Assumes nothing.
 use mathlib.Core.Path.{_≡_, refl, sym, ap, _∙_}
+use mathlib.Core.Bool.{Bool, true, false}
 use mathlib.Core.List.{List, [], _∷_, _++_}
 use Prim.Native.Nat.{ℕ, suc, _+_, _%_, _≤_, _<_, min}
 use native.Mathlib.Numerals.{add-one}
 use native.Mathlib.Omega.{arith}
 use lib.ListN.{length, getD}
-use Rattle.products.specs.Sets.{has}
+use Rattle.products.specs.Sets.{has, oneIf}
 use Rattle.text.specs.Text.{limit, Wrote}
 use Rattle.text.proofs.Laws.{wrote-none, wrote-then, wrote-long}
 use Rattle.fields.specs.Bytes.{pieceOf}
@@ -15,7 +16,8 @@ use Rattle.guards.specs.Reading.{namesOf}
 use Rattle.sheet.specs.Sheet.{Move, Stop}
 use Rattle.sheet.specs.Spelling.{featureFields, moveFields, moveRow, stopRow}
 use Rattle.sheet.specs.Tables.{Rows, none, next}
-use Rattle.verdicts.specs.Judging.{guardsAt}
+use Rattle.verdicts.specs.Judging.{guardsAt, rowAt}
+use Rattle.verdicts.proofs.Shown.{guards-none}
 use Rattle.cleaning.specs.Forms.{lineOf, linesOf, MadeGuard, RowMove, StopAt, StopsBelow}
 use Rattle.cleaning.proofs.Texts.{lines-none, lines-more, lines-append}
 use Rattle.cleaning.proofs.Lines.{wrote-as}
@@ -99,3 +101,12 @@ module _ {s : List ℕ} {names moves guards sets : List (List ℕ)} {n count : �
   pub stops-all : {q : ℕ} {room′ : List ℕ} {place : ℕ} → StopsLaid s names moves guards sets n count room at q room′ place → q ≡ 64
       → (ds : List Stop) × StopsBelow n moves guards sets count 64 ds × Wrote room at (linesOf (stopRow (namesOf s names n)) ds) room′ place
   stops-all l e = (l .made, rw e at (l .below), l .laid)
+
+-- a state that no move line leaves has no guard
+unmarked : (b : Bool) → oneIf b ≡ 0 → b ≡ false
+unmarked true e = absurd (omega arith)
+unmarked false e = refl
+
+pub out-none : (moves guards : List (List ℕ)) (q n : ℕ) (out : List ℕ) {m : ℕ} → m ≡ oneIf (rowAt moves 1 q n) → ((p : ℕ) → p < 1024 → has out p ≡ guardsAt moves guards q p n)
+    → m ≡ 0 → (p : ℕ) → p < 1024 → has out p ≡ 0
+out-none moves guards q n out e o z p l = o p l ∙ guards-none moves guards q p n (unmarked (rowAt moves 1 q n) (sym e ∙ z))

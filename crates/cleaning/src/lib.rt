@@ -235,10 +235,21 @@ fn put_stops(
     ensures { λ r. ⌜ ((ds : List Stop) × StopsBelow (min features 10) (now (moves .entry)) (now (guards .entry)) (now (sets .entry)) (min count 256) 64 ds × Wrote (now (room .entry)) at (linesOf (stopRow (namesOf (now (text .entry)) (now (names .entry)) (min features 10))) ds) (now (room .exit)) r) ⌝ }
 {
     let out = verdicts::all_out(count, moves, guards);
+    let leaves = verdicts::states_at(count, moves, 1);
     let mut next = at;
     let mut q = 0;
     while q < 64 {
-        next = put_stop(room, next, text, names, features, q, sets[q], out[q]);
+        next = put_stop(
+            room,
+            next,
+            text,
+            names,
+            features,
+            q,
+            leaves[q],
+            sets[q],
+            out[q],
+        );
         q += 1;
     }
     next

@@ -1,21 +1,24 @@
 -- `put_stop`: a law of `Lines` for each return. Assumes nothing.
 use native.Mathlib.Omega.{arith}
 use Rattle.sheet.specs.Reading.{stopWord}
-use Rattle.cleaning.proofs.Lines.{line-two, stop-dead, stop-leaving, stop-stays}
+use Rattle.cleaning.proofs.Lines.{line-two, stop-idle, stop-dead, stop-leaving, stop-stays}
 use borrow.Author.Needs.{needs}
 use Rattle.cleaning.proofs.line.put_stop.Statement.{statement}
 use Rattle.cleaning.proofs.line.put_stop.Tie as tie
 
 returns : tie.Need-returns
-returns c = stop-dead _ _ (c .before .before .before .both .ensures) _ (c .before .before .least .ensures) (c .enum-told2 .given .1) (search needs)
+returns c = λ none. stop-idle _ (none (c .if1 .taken)) (search needs)
 
 returns-2 : tie.Need-returns-2
-returns-2 c =
+returns-2 c = λ none. stop-dead _ _ (c .before .before .before .both .ensures) _ (c .before .before .least .ensures) (c .enum-told2 .given .1) (search needs)
+
+returns-3 : tie.Need-returns-3
+returns-3 c = λ none.
     let some = c .before .before in
     stop-leaving _ _ (some .before .without .ensures) _ (some .least2 .ensures) (c .enum-told4 .given .1) (search needs)
 
-returns-3 : tie.Need-returns-3
-returns-3 c =
+returns-4 : tie.Need-returns-4
+returns-4 c = λ none.
     let end = c .before .before in
     let guard = end .before .before .before .before in
     let tab = guard .before .before .before .before in
@@ -30,16 +33,17 @@ pub put-stop-spec : {M : Type 1} → statement M
 put-stop-spec =
     tie.close
     (tie.spec
-    (λ c κs. search needs)
-    (λ c κs. search needs)
-    (λ c. search needs)
-    (λ c. search needs)
     returns
     (λ c κs. search needs)
     (λ c κs. search needs)
     (λ c. search needs)
     (λ c. search needs)
     returns-2
+    (λ c κs. search needs)
+    (λ c κs. search needs)
+    (λ c. search needs)
+    (λ c. search needs)
+    returns-3
     (λ c. search needs)
     (λ c κs. search needs)
     (λ c κs. search needs)
@@ -47,4 +51,4 @@ put-stop-spec =
     (λ c κs. search needs)
     (λ c κs. search needs)
     (λ c. search needs)
-    returns-3)
+    returns-4)
