@@ -13,15 +13,11 @@ fn main() {
     let mode = mode_of(&word, a);
     let b = os::arg(2, &mut word);
     let turns = turns_of(&word, b);
-    if mode == 1 {
-        report_turns(&buf[..n], &mut room, turns);
+    if mode == 0 {
+        io::write_all(STDOUT_FILENO, b"bench: report or clean, and a number\n");
         return;
     }
-    if mode == 2 {
-        clean_turns(&buf[..n], &mut room, turns);
-        return;
-    }
-    io::write_all(STDOUT_FILENO, b"bench: report or clean, and a number\n");
+    run(&buf[..n], &mut room, mode, turns);
 }
 
 // 1 for `report`, 2 for `clean`, by the first letter; 0 for anything else.
@@ -65,15 +61,32 @@ fn turns_of(word: &[u8], n: usize) -> usize {
     turns
 }
 
-fn report_turns(text: &[u8], room: &mut [u8], turns: usize) {
+// So many turns, of which the last is shown.
+fn run(text: &[u8], room: &mut [u8], mode: usize, turns: usize) {
     let mut left = turns;
     while 1 < left {
-        reporting::report(text, room);
+        turn(text, room, mode);
         left -= 1;
     }
     if left == 0 {
         return;
     }
+    if mode == 1 {
+        show_report(text, room);
+        return;
+    }
+    show_clean(text, room);
+}
+
+fn turn(text: &[u8], room: &mut [u8], mode: usize) {
+    if mode == 1 {
+        reporting::report(text, room);
+        return;
+    }
+    cleaning::clean(text, room);
+}
+
+fn show_report(text: &[u8], room: &mut [u8]) {
     let r = reporting::report(text, room);
     match r {
         reporting::Answer::Done(m) => {
@@ -85,15 +98,7 @@ fn report_turns(text: &[u8], room: &mut [u8], turns: usize) {
     }
 }
 
-fn clean_turns(text: &[u8], room: &mut [u8], turns: usize) {
-    let mut left = turns;
-    while 1 < left {
-        cleaning::clean(text, room);
-        left -= 1;
-    }
-    if left == 0 {
-        return;
-    }
+fn show_clean(text: &[u8], room: &mut [u8]) {
     let r = cleaning::clean(text, room);
     match r {
         cleaning::Answer::Done(m) => {

@@ -8,69 +8,41 @@ const MARK: u8 = 165;
 
 const AROUND: usize = 32;
 
+const REPORT: u8 = 1;
+
+const CLEAN: u8 = 2;
+
 fn main() {
     let mut buf = [0u8; 65537];
     let n = console::read_input(&mut buf);
     let mut area = [0u8; 8192];
-    report_rooms(&buf[0..n], &mut area);
-    clean_rooms(&buf[0..n], &mut area);
+    rooms(&buf[0..n], &mut area, REPORT);
+    rooms(&buf[0..n], &mut area, CLEAN);
 }
 
-// The report, in rooms of each size in turn.
-fn report_rooms(text: &[u8], area: &mut [u8]) {
-    let count = report_sizes(text, area);
+// The report, or the clean form, in rooms of each size in turn.
+fn rooms(text: &[u8], area: &mut [u8], what: u8) {
+    let count = sizes(text, area, what);
     let mut size = 0;
     while size < count {
-        report_room(text, area, size);
+        room(text, area, size, what);
         size += 1;
     }
 }
 
 // How many sizes there are: from 0 to eight more than the length; only 0 where the sheet is refused.
+fn sizes(text: &[u8], area: &mut [u8], what: u8) -> usize {
+    if what == REPORT {
+        return report_sizes(text, area);
+    }
+    clean_sizes(text, area)
+}
+
 fn report_sizes(text: &[u8], area: &mut [u8]) -> usize {
     let r = reporting::report(text, area);
     match r {
         reporting::Answer::Done(m) => nine_more(m),
         reporting::Answer::Refused { number: _, line: _ } => 1,
-    }
-}
-
-fn nine_more(m: usize) -> usize {
-    if 8192 < m {
-        return 0;
-    }
-    m + 9
-}
-
-// The report, in a room of `size` bytes with 32 marked bytes on each side.
-fn report_room(text: &[u8], area: &mut [u8], size: usize) {
-    if area.len() < 64 {
-        return;
-    }
-    if area.len() - 64 < size {
-        return;
-    }
-    mark(area);
-    let end = AROUND + size;
-    let r = reporting::report(text, &mut area[AROUND..end]);
-    match r {
-        reporting::Answer::Done(m) => {
-            show_done(size, m);
-        }
-        reporting::Answer::Refused { number, line } => {
-            show_refused(size, number, line);
-        }
-    }
-    show_room(&area[0..end + AROUND]);
-}
-
-// The same for the clean form.
-fn clean_rooms(text: &[u8], area: &mut [u8]) {
-    let count = clean_sizes(text, area);
-    let mut size = 0;
-    while size < count {
-        clean_room(text, area, size);
-        size += 1;
     }
 }
 
@@ -82,7 +54,15 @@ fn clean_sizes(text: &[u8], area: &mut [u8]) -> usize {
     }
 }
 
-fn clean_room(text: &[u8], area: &mut [u8], size: usize) {
+fn nine_more(m: usize) -> usize {
+    if 8192 < m {
+        return 0;
+    }
+    m + 9
+}
+
+// A room of `size` bytes with 32 marked bytes on each side.
+fn room(text: &[u8], area: &mut [u8], size: usize, what: u8) {
     if area.len() < 64 {
         return;
     }
@@ -91,16 +71,41 @@ fn clean_room(text: &[u8], area: &mut [u8], size: usize) {
     }
     mark(area);
     let end = AROUND + size;
-    let r = cleaning::clean(text, &mut area[AROUND..end]);
+    answer_in(text, &mut area[AROUND..end], what);
+    show_room(&area[0..end + AROUND]);
+}
+
+// Lays the text into the room, and writes the room's size and the answer.
+fn answer_in(text: &[u8], room: &mut [u8], what: u8) {
+    if what == REPORT {
+        report_in(text, room);
+        return;
+    }
+    clean_in(text, room);
+}
+
+fn report_in(text: &[u8], room: &mut [u8]) {
+    let r = reporting::report(text, room);
     match r {
-        cleaning::Answer::Done(m) => {
-            show_done(size, m);
+        reporting::Answer::Done(m) => {
+            show_done(room.len(), m);
         }
-        cleaning::Answer::Refused { number, line } => {
-            show_refused(size, number, line);
+        reporting::Answer::Refused { number, line } => {
+            show_refused(room.len(), number, line);
         }
     }
-    show_room(&area[0..end + AROUND]);
+}
+
+fn clean_in(text: &[u8], room: &mut [u8]) {
+    let r = cleaning::clean(text, room);
+    match r {
+        cleaning::Answer::Done(m) => {
+            show_done(room.len(), m);
+        }
+        cleaning::Answer::Refused { number, line } => {
+            show_refused(room.len(), number, line);
+        }
+    }
 }
 
 // Marks every byte.
