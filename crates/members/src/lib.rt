@@ -1,7 +1,7 @@
 // What a set of products has: whether it has one, how many, which is the least, and whether two sets are the same.
 ghost use mathlib.Core.Path.{_≡_};
 ghost use mathlib.Core.Bool.{true, false};
-ghost use Prim.Native.Nat.{_+_, _*_, _<_, _≤_};
+ghost use Prim.Native.Nat.{ℕ, _+_, _*_, _<_, _≤_};
 ghost use lib.Dec.{eqb};
 ghost use Rattle.products.specs.Sets.{has, In, Finds, countTo};
 use products::Found;
@@ -47,6 +47,9 @@ pub fn count(s: [u64; 16]) -> usize
 pub fn least(s: [u64; 16]) -> Found
     ensures { λ r. ⌜ Finds _≤_ (In s) r ⌝ }
 {
+    if is_empty(s) {
+        return Found::Nothing;
+    }
     let mut w = 0;
     'search: loop {
         if w == 16 {
@@ -63,4 +66,17 @@ pub fn least(s: [u64; 16]) -> Found
         }
         w += 1;
     }
+}
+
+// Whether s has no product: all words at once, without a branch for each.
+fn is_empty(s: [u64; 16]) -> bool
+    ensures { λ r. ⌜ (r ≡ true → (q : ℕ) → In s q → ⊥) × (r ≡ false → ((q : ℕ) → In s q → ⊥) → ⊥) ⌝ }
+{
+    let mut all = 0u64;
+    let mut i = 0;
+    while i < 16 {
+        all = all | s[i];
+        i += 1;
+    }
+    all == 0
 }

@@ -1,5 +1,5 @@
--- `least` meets its contract. Both loops have one invariant, that no product stands before the place; a word that is 0 is passed whole.
--- Assumes nothing.
+-- `least` meets its contract: an empty set is answered at once. Both loops have one invariant, that no product stands before the place; a
+-- word that is 0 is passed whole. Assumes nothing.
 use Prim.Native.Nat.{_≤_, _<_, _-_}
 use mathlib.Core.Logic.{⊎-elim}
 use native.Mathlib.Omega.{arith}
@@ -20,6 +20,9 @@ Inv-search s w₀ w = (w ≤ 16) × Passed s w 0
 abbrev μ-search : tie.MeasureT-search
 μ-search s w₀ w = 16 - w
 
+returns : tie.Need-returns Inv-loop μ-loop Inv-search μ-search
+returns c = c .before .is-empty .ensures .0 (c .if1 .taken)
+
 search-holds : tie.Need-search-holds Inv-loop μ-loop Inv-search μ-search
 search-holds c = (search needs, record { none = λ q lq. absurd (omega arith) })
 
@@ -27,21 +30,21 @@ loop-holds : tie.Need-loop-holds Inv-loop μ-loop Inv-search μ-search
 loop-holds c = (search needs, search needs, c .before .before .search .inv .1)
 
 loop-again : tie.Need-loop-again Inv-loop μ-loop Inv-search μ-search
-loop-again c = (search needs, search needs, passed-bit (c .before .before .loop .inv .2) (c .before .loop-test .taken) (c .if3 .left))
+loop-again c = (search needs, search needs, passed-bit (c .before .before .loop .inv .2) (c .before .loop-test .taken) (c .if4 .left))
 
 search-again : tie.Need-search-again Inv-loop μ-loop Inv-search μ-search
 search-again c = (
   search needs,
-  ⊎-elim (λ x. passed-bits (x .1 .inv .2) (x .2 .left)) (λ x. passed-word (c .before .before .search .inv .1) (x .left)) (c .if2 .came),
+  ⊎-elim (λ x. passed-bits (x .1 .inv .2) (x .2 .left)) (λ x. passed-word (c .before .before .search .inv .1) (x .left)) (c .if3 .came),
 )
 
-returns : tie.Need-returns Inv-loop μ-loop Inv-search μ-search
-returns c = least-none (c .before .search .inv .1) (c .if1 .taken)
-
 returns-2 : tie.Need-returns-2 Inv-loop μ-loop Inv-search μ-search
-returns-2 c =
+returns-2 c = least-none (c .before .search .inv .1) (c .if2 .taken)
+
+returns-3 : tie.Need-returns-3 Inv-loop μ-loop Inv-search μ-search
+returns-3 c =
     let l = c .before .before .loop in
-    least-at (l .inv .2) (l .inv .0) (c .before .loop-test .taken) (c .if3 .taken)
+    least-at (l .inv .2) (l .inv .0) (c .before .loop-test .taken) (c .if4 .taken)
 
 pub least-spec : {M : Type 1} → statement M
 least-spec =
@@ -51,6 +54,8 @@ least-spec =
     μ-loop
     Inv-search
     μ-search
+    (λ c κs. search needs)
+    returns
     search-holds
     (λ c. search needs)
     (λ c. search needs)
@@ -66,5 +71,5 @@ least-spec =
     (λ c. search needs)
     (λ c. search needs)
     search-again
-    returns
-    returns-2)
+    returns-2
+    returns-3)

@@ -1,0 +1,50 @@
+-- The words of a set joined by `|`: what is known of the words that were joined, how that grows by a word, and what it says of the set
+-- where all are. Assumes nothing.
+use mathlib.Core.Path.{_≡_, _∙_}
+use mathlib.Core.List.{List}
+use Prim.Native.Nat.{ℕ, _+_, _*_, _/_, _%_, _^_, _<_, _≤_}
+use native.Mathlib.Omega.{arith}
+use borrow.Author.Count.{below-more}
+use lib.Bits.{bitOr, and-le-l, and-le-r, or-add-and}
+use lib.ListN.{getD}
+use Rattle.products.specs.Sets.{bit, has, In}
+use Rattle.products.proofs.Bits.{zero-bit, eq-bits}
+use Rattle.products.proofs.Laws.{has-at}
+
+-- all is 0 exactly where the first i words of s are
+pub record Joined (s : List ℕ) (i all : ℕ) : Type 0 where
+  pub words : all ≡ 0 → (k : ℕ) → k < i → getD s k 0 ≡ 0
+  pub whole : ((k : ℕ) → k < i → getD s k 0 ≡ 0) → all ≡ 0
+
+-- no word
+pub joined-none : (s : List ℕ) (i all : ℕ) → i ≡ 0 → all ≡ 0 → Joined s i all
+joined-none s i all ei ea = record { words = λ e k lk. absurd (omega arith); whole = λ z. ea }
+
+module _ {s : List ℕ} {i all : ℕ} (h : Joined s i all) where
+  -- a word more
+  pub joined-word : Joined s (i + 1) (bitOr all (getD s i 0))
+  joined-word =
+      let x = getD s i 0 in
+      record {
+        words = λ e. below-more (λ k. getD s k 0 ≡ 0) i
+            (h .words (omega (arith, e, or-add-and all x, and-le-r all x)))
+            (omega (arith, e, or-add-and all x, and-le-l all x));
+        whole = λ z. omega (arith, h .whole (λ k lk. z k (omega arith)), z i (omega arith), or-add-and all x);
+      }
+
+  -- all words, each 0
+  pub joined-empty : 16 ≤ i → all ≡ 0 → (q : ℕ) → In s q → ⊥
+  unfolding has
+  joined-empty le e q m =
+      let z : getD s (q / 64) 0 ≡ 0 = h .words e (q / 64) (omega (arith, m .small)) in
+      let o : bit (getD s (q / 64) 0) (q % 64) ≡ 1 = m .is in
+      omega (arith, zero-bit (q % 64), rw z at o)
+
+  -- all words, one not 0
+  pub joined-some : i ≤ 16 → ((k : ℕ) → k < 16 → getD s k 0 < 2 ^ 64) → (all ≡ 0 → ⊥) → ((q : ℕ) → In s q → ⊥) → ⊥
+  joined-some le word ne none = ne (h .whole (λ k lk. eq-bits 64 (getD s k 0) 0 (word k (omega arith)) (omega arith) (clear k lk)))
+    where
+      clear : (k : ℕ) → k < i → (j : ℕ) → j < 64 → bit (getD s k 0) j ≡ bit 0 j
+      clear k lk j lj =
+          let n : bit (getD s k 0) j ≡ 1 → ⊥ = λ e. none (k * 64 + j) (record { small = omega arith; is = has-at s k j lj ∙ e }) in
+          omega (arith, zero-bit j)
