@@ -8,7 +8,7 @@ use native.Mathlib.Omega.{arith}
 use native.Mathlib.Numerals.{add-one}
 use native.Mathlib.Nat.{add-zero, zero-add, eq-zero-or-pos}
 use borrow.Author.Tests.{lt-ltb, le-ltb}
-use lib.ListN.{getD, length, set, take, drop, length-append, length-set, take-append-drop, drop-of-length-le}
+use lib.ListN.{getD, length, set, take, drop, length-append, length-set, drop-of-length-le}
 use lib.Seq.{sets, length-sets, sets-eq, set-out, set-at, take-suc, drop-cons, take-all, length-take-le, take-at, drop-at}
 use borrow.Rule.Slice.PartMut.{putMid, post-is}
 use Rattle.text.specs.Text.{limit, behind, Wrote, digits, decimal}
@@ -69,13 +69,6 @@ wrote-then {l} {u} {l′} {v} {l″} {at} {at′} {at″} a b =
 
 -- ---- many bytes at once
 
--- of a text as much as the room takes is laid
-sets-cut : (l : List ℕ) (at n : ℕ) (vs : List ℕ) → length l ≤ at + n → n ≤ length vs → sets l at vs ≡ sets l at (take n vs)
-sets-cut l at n vs h g =
-    let e : length (take n vs) ≡ n = length-take-le n vs g in
-    let p : length (sets l at (take n vs)) ≤ at + length (take n vs) = simp length-sets (omega arith) in
-    ap (sets l at) (sym (take-append-drop n vs)) ∙ sets-append l at (take n vs) (drop n vs) ∙ sets-past (sets l at (take n vs)) (at + length (take n vs)) (drop n vs) p
-
 -- the first i bytes are copied, and behind them stands what stood there
 pub record Copied (first bytes : List ℕ) (i : ℕ) (room : List ℕ) : Type 0 where
   pub long : length room ≡ length first
@@ -115,19 +108,15 @@ pub wrote-part : {l vs ys : List ℕ} {at at′ : ℕ} → length l ≤ limit �
     → Wrote l at vs (putMid at (at + length vs - at) l ys) at′
 wrote-part {l} {vs} {ys} {at} h m g e = wrote-copied h m g (rw (e, post-is at (at + length vs) l (omega arith)) (sym (append-assoc (take at l) vs (drop (at + length vs) l))))
 
--- as much of a text as fits
-pub wrote-cut : {l vs l′ : List ℕ} {at at′ n : ℕ} → length l ≤ limit → at′ ≡ behind at (length vs) → n ≡ length l - at → at ≤ length l → n ≤ length vs
-    → l′ ≡ take at l ++ take n vs ++ drop (at + length (take n vs)) l → Wrote l at vs l′ at′
-wrote-cut {l} {vs} {l′} {at} {n = n} h m d f g e =
-    let p : at + length (take n vs) ≤ length l = rw (length-take-le n vs g) (omega arith) in
-    record { short = h; moved = m; became = e ∙ sym (sets-cut l at n vs (omega arith) g ∙ sets-eq (take n vs) l at p) }
+-- ---- byte by byte
 
-pub wrote-cut-part : {l vs ys : List ℕ} {at at′ : ℕ} → length l ≤ limit → at′ ≡ behind at (length vs) → at ≤ length l → length l - at ≤ length vs
-    → ys ≡ take (length l - at - 0) vs → Wrote l at vs (putMid at (at + (length l - at) - at) l ys) at′
-wrote-cut-part {l} {vs} {ys} {at} h m f g e =
-    let n : length (take (length l - at) vs) ≡ length l - at = length-take-le (length l - at) vs g in
-    let z : length l - at - 0 ≡ length l - at = omega arith in
-    wrote-cut h m refl f g (rw (e, z, n, post-is at (at + (length l - at)) l (omega arith)) (sym (append-assoc (take at l) (take (length l - at) vs) (drop (at + (length l - at)) l))))
+-- one byte more of a list of bytes
+pub bytes-more : {l l′ l″ : List ℕ} {at at′ at″ : ℕ} (s : List ℕ) (i : ℕ) → Wrote l at (take i s) l′ at′ → Wrote l′ at′ (getD s i 0 ∷ []) l″ at″ → i < length s → Wrote l at (take (i + 1) s) l″ at″
+bytes-more s i w v h = rw (add-one, take-suc s i 0 h) (wrote-then w v)
+
+-- all of a list of bytes
+pub bytes-all : {l l′ : List ℕ} {at at′ : ℕ} (s : List ℕ) (i : ℕ) → Wrote l at (take i s) l′ at′ → length s ≤ i → Wrote l at s l′ at′
+bytes-all s i w h = rw (take-all i s h) at w
 
 -- ---- what a text that fits leaves
 
@@ -210,6 +199,25 @@ decimal-long (suc n) h = rw (le-ltb (suc n) 10 h, digits-enough n (suc n / 10) (
 -- a number of two digits
 pub decimal-two : (n : ℕ) → 10 ≤ n → n < 100 → decimal n ≡ (n / 10 + 48) ∷ (n % 10 + 48) ∷ []
 decimal-two n h g = rw (decimal-long n h, decimal-short (n / 10) (omega arith))
+
+-- laying a number of one digit
+pub number-one : {l l′ : List ℕ} {at at′ n x : ℕ} → Wrote l at (x ∷ []) l′ at′ → x ≡ n % 10 + 48 → n < 10 → Wrote l at (decimal n) l′ at′
+number-one {n = n} {x} u e h = let f : n + 48 ≡ x = omega arith in rw (decimal-short n h, f) u
+
+-- laying one digit more, in the next place
+pub number-more : {l l′ l″ : List ℕ} {at at′ next at″ m n x : ℕ} → Wrote l at (decimal m) l′ at′ → Wrote l′ next (x ∷ []) l″ at″
+    → next ≡ at′ → m ≡ n / 10 → x ≡ n % 10 + 48 → 10 ≤ n → Wrote l at (decimal n) l″ at″
+number-more {n = n} u v p d e h = rw (decimal-long n h, ← d, ← e) (wrote-then u (rw p at v))
+
+-- laying a number of two digits
+pub number-two : {l l′ l″ : List ℕ} {at at′ at″ n x y : ℕ} → Wrote l at (x ∷ []) l′ at′ → Wrote l′ at′ (y ∷ []) l″ at″
+    → x ≡ n / 10 % 10 + 48 → y ≡ n % 10 + 48 → 10 ≤ n → n < 100 → Wrote l at (decimal n) l″ at″
+number-two {n = n} u v e f h g = number-more (number-one {n = n / 10} u e (omega arith)) v refl refl f h
+
+-- and of three
+pub number-three : {l l′ l″ l‴ : List ℕ} {at at′ at″ at‴ n x y z : ℕ} → Wrote l at (x ∷ []) l′ at′ → Wrote l′ at′ (y ∷ []) l″ at″ → Wrote l″ at″ (z ∷ []) l‴ at‴
+    → x ≡ n / 100 % 10 + 48 → y ≡ n / 10 % 10 + 48 → z ≡ n % 10 + 48 → 100 ≤ n → n < 1000 → Wrote l at (decimal n) l‴ at‴
+number-three {n = n} u v w e f g h k = number-more (number-two {n = n / 10} u v (omega arith) f (omega arith) (omega arith)) w refl refl g (omega arith)
 
 -- what holds of one digit, and of a digit more, holds of every decimal number
 module _ (P : ℕ → List ℕ → Type 0) (one : (n : ℕ) → n < 10 → P n ((n + 48) ∷ [])) (more : (n : ℕ) (bs : List ℕ) → 10 ≤ n → P (n / 10) bs → P n (bs ++ ((n % 10 + 48) ∷ []))) where

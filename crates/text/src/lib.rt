@@ -36,7 +36,19 @@ pub fn put_bytes(room: &mut [u8], at: usize, bytes: &[u8]) -> usize
         copy(&mut room[at..at + bytes.len()], bytes);
         return next;
     }
-    copy(&mut room[at..at + rest], &bytes[0..rest]);
+    put_some(room, at, bytes)
+}
+
+// Lays all of `bytes`, byte by byte.
+fn put_some(room: &mut [u8], at: usize, bytes: &[u8]) -> usize
+    ensures { λ r. ⌜ Wrote (now (room .entry)) at (now (bytes .entry)) (now (room .exit)) r ⌝ }
+{
+    let mut next = at;
+    let mut k = 0;
+    while k < bytes.len() {
+        next = put(room, next, bytes[k]);
+        k += 1;
+    }
     next
 }
 
@@ -73,15 +85,33 @@ fn digit(n: usize) -> u8
     n as u8 + 48
 }
 
-// Lays n in decimal digits, without leading zeros. It calls itself on what stands before the last
-// digit, so at most 20 deep.
+// Lays n in decimal digits, without leading zeros. From 1000 on it calls itself on what stands before
+// the last digit, so at most 18 deep.
 pub fn put_number(room: &mut [u8], at: usize, n: usize) -> usize
+    ensures { λ r. ⌜ Wrote (now (room .entry)) at (decimal n) (now (room .exit)) r ⌝ }
+{
+    if n < 1000 {
+        return put_small(room, at, n);
+    }
+    let next = put_number(room, at, n / 10);
+    put(room, next, digit(n % 10))
+}
+
+// The same for n below 1000.
+fn put_small(room: &mut [u8], at: usize, n: usize) -> usize
+    requires { ⌜ n < 1000 ⌝ }
     ensures { λ r. ⌜ Wrote (now (room .entry)) at (decimal n) (now (room .exit)) r ⌝ }
 {
     let last = digit(n % 10);
     if n < 10 {
         return put(room, at, last);
     }
-    let next = put_number(room, at, n / 10);
-    put(room, next, last)
+    let tens = digit(n / 10 % 10);
+    if n < 100 {
+        let a = put(room, at, tens);
+        return put(room, a, last);
+    }
+    let b = put(room, at, digit(n / 100 % 10));
+    let c = put(room, b, tens);
+    put(room, c, last)
 }
