@@ -2,14 +2,21 @@
 -- where all are. Assumes nothing.
 use mathlib.Core.Path.{_≡_, _∙_}
 use mathlib.Core.List.{List}
-use Prim.Native.Nat.{ℕ, _+_, _*_, _/_, _%_, _^_, _<_, _≤_}
+use mathlib.Core.Logic.{_⊎_, inl, inr, ⊎-elim}
+use Prim.Native.Nat.{ℕ, zero, suc, _+_, _*_, _/_, _%_, _^_, _<_, _≤_}
+use native.Mathlib.Nat.{eq-or-lt-of-le}
 use native.Mathlib.Omega.{arith}
 use borrow.Author.Count.{below-more}
 use lib.Bits.{bitOr, and-le-l, and-le-r, or-add-and}
 use lib.ListN.{getD}
 use Rattle.products.specs.Sets.{bit, has, In}
 use Rattle.products.proofs.Bits.{zero-bit, eq-bits}
-use Rattle.products.proofs.Laws.{has-at}
+use Rattle.products.proofs.Laws.{has-at, has-le}
+
+-- a product of s, or none below n
+some-or-none : (s : List ℕ) (n : ℕ) → n ≤ 1024 → ((q : ℕ) × In s q) ⊎ ((q : ℕ) → q < n → has s q ≡ 0)
+some-or-none s zero le = inr (λ q lq. absurd (omega arith))
+some-or-none s (suc n) le = ⊎-elim inl (λ z. ⊎-elim (λ e. inl (n, record { small = omega arith; is = e })) (λ lt. inr (λ q lq. below-more (λ q. has s q ≡ 0) n z (omega arith) q (omega arith))) (eq-or-lt-of-le (has-le s n))) (some-or-none s n (omega arith))
 
 -- all is 0 exactly where the first i words of s are
 pub record Joined (s : List ℕ) (i all : ℕ) : Type 0 where
@@ -40,11 +47,15 @@ module _ {s : List ℕ} {i all : ℕ} (h : Joined s i all) where
       let o : bit (getD s (q / 64) 0) (q % 64) ≡ 1 = m .is in
       omega (arith, zero-bit (q % 64), rw z at o)
 
-  -- all words, one not 0
-  pub joined-some : i ≤ 16 → ((k : ℕ) → k < 16 → getD s k 0 < 2 ^ 64) → (all ≡ 0 → ⊥) → ((q : ℕ) → In s q → ⊥) → ⊥
-  joined-some le word ne none = ne (h .whole (λ k lk. eq-bits 64 (getD s k 0) 0 (word k (omega arith)) (omega arith) (clear k lk)))
+  -- all words, one not 0: not every word is clear
+  joined-full : i ≤ 16 → ((k : ℕ) → k < 16 → getD s k 0 < 2 ^ 64) → (all ≡ 0 → ⊥) → ((q : ℕ) → In s q → ⊥) → ⊥
+  joined-full le word ne none = ne (h .whole (λ k lk. eq-bits 64 (getD s k 0) 0 (word k (omega arith)) (omega arith) (clear k lk)))
     where
       clear : (k : ℕ) → k < i → (j : ℕ) → j < 64 → bit (getD s k 0) j ≡ bit 0 j
       clear k lk j lj =
           let n : bit (getD s k 0) j ≡ 1 → ⊥ = λ e. none (k * 64 + j) (record { small = omega arith; is = has-at s k j lj ∙ e }) in
           omega (arith, zero-bit j)
+
+  -- so there is a product
+  pub joined-some : i ≤ 16 → ((k : ℕ) → k < 16 → getD s k 0 < 2 ^ 64) → (all ≡ 0 → ⊥) → (q : ℕ) × In s q
+  joined-some le word ne = ⊎-elim (λ m. m) (λ z. absurd (joined-full le word ne (λ q m. omega (arith, z q (m .small), m .is)))) (some-or-none s 1024 (omega arith))

@@ -69,8 +69,8 @@ pub fn least(s: [u64; 16]) -> Found
 }
 
 // Whether s has no product: all words at once, without a branch for each.
-fn is_empty(s: [u64; 16]) -> bool
-    ensures { λ r. ⌜ (r ≡ true → (q : ℕ) → In s q → ⊥) × (r ≡ false → ((q : ℕ) → In s q → ⊥) → ⊥) ⌝ }
+pub fn is_empty(s: [u64; 16]) -> bool
+    ensures { λ r. ⌜ (r ≡ true → (q : ℕ) → In s q → ⊥) × (r ≡ false → (q : ℕ) × In s q) ⌝ }
 {
     let mut all = 0u64;
     let mut i = 0;
