@@ -34,27 +34,23 @@ module _ {here guard : List ℕ} (made : List ℕ) (both : (p : ℕ) → p < 102
 
 -- ---- states
 
-module _ {here : List ℕ} {f : Found} (l : Finds _≤_ (In here) f) {q : ℕ} (e : f ≡ At q) {leaves : Bool} where
-  pub state-end : leaves ≡ false → ((p : ℕ) × In here p) × (leaves ≡ false)
-  state-end w = ((q, found-at _≤_ (In here) l e .is), w)
+module _ {here : List ℕ} {leaves : Bool} (w : leaves ≡ true) {out declared : List ℕ} (s t : List ℕ) (one : (p : ℕ) → p < 1024 → has s p ≡ has here p - has out p)
+    (two : (p : ℕ) → p < 1024 → has t p ≡ has s p - has declared p) {g : Found} (k : Finds _≤_ (In t) g) where
+  pub state-live : (p : ℕ) × In here p → g ≡ Nothing → StateSets here leaves out declared Live
+  state-live some d = (some, w, none-as (left-agree s one two) (found-none _≤_ (In t) k d))
 
-  module _ (w : leaves ≡ true) {out declared : List ℕ} (s t : List ℕ) (one : (p : ℕ) → p < 1024 → has s p ≡ has here p - has out p)
-      (two : (p : ℕ) → p < 1024 → has t p ≡ has s p - has declared p) {g : Found} (k : Finds _≤_ (In t) g) where
-    pub state-live : g ≡ Nothing → StateSets here leaves out declared Live
-    state-live d = ((q, found-at _≤_ (In here) l e .is), w, none-as (left-agree s one two) (found-none _≤_ (In t) k d))
-
-    pub state-hidden : {p : ℕ} → g ≡ At p → StateSets here leaves out declared (Hidden p)
-    state-hidden d = (w, least-as (left-agree s one two) (found-at _≤_ (In t) k d))
+  pub state-hidden : {p : ℕ} → g ≡ At p → StateSets here leaves out declared (Hidden p)
+  state-hidden d = (w, least-as (left-agree s one two) (found-at _≤_ (In t) k d))
 
 -- ---- stop lines
 
-module _ {here guard : List ℕ} (s : List ℕ) (one : (p : ℕ) → p < 1024 → has s p ≡ min (has here p) (has guard p)) {f : Found} (l : Finds _≤_ (In s) f) where
-  pub stop-idle : f ≡ Nothing → (p : ℕ) → InBoth here guard p → ⊥
-  stop-idle e = none-as (both-agree one) (found-none _≤_ (In s) l e)
+module _ {here guard : List ℕ} (s : List ℕ) (one : (p : ℕ) → p < 1024 → has s p ≡ min (has here p) (has guard p)) where
+  pub stop-idle : ((p : ℕ) → In s p → ⊥) → (p : ℕ) → InBoth here guard p → ⊥
+  stop-idle none = none-as (both-agree one) none
 
-  module _ {q : ℕ} (e : f ≡ At q) {out : List ℕ} (t : List ℕ) (two : (p : ℕ) → p < 1024 → has t p ≡ min (has s p) (has out p)) {g : Found} (k : Finds _≤_ (In t) g) where
-    pub stop-true : g ≡ Nothing → StopSets here guard out True
-    stop-true d = (some-as (both-agree one) (q, found-at _≤_ (In s) l e .is), none-as (all-agree s one two) (found-none _≤_ (In t) k d))
+  module _ {out : List ℕ} (t : List ℕ) (two : (p : ℕ) → p < 1024 → has t p ≡ min (has s p) (has out p)) {g : Found} (k : Finds _≤_ (In t) g) where
+    pub stop-true : (p : ℕ) × In s p → g ≡ Nothing → StopSets here guard out True
+    stop-true some d = (some-as (both-agree one) some, none-as (all-agree s one two) (found-none _≤_ (In t) k d))
 
     pub stop-untrue : {p : ℕ} → g ≡ At p → StopSets here guard out (Untrue p)
     stop-untrue d = least-as (all-agree s one two) (found-at _≤_ (In t) k d)
