@@ -1,4 +1,5 @@
 pub mod Parts
+pub mod Found
 pub mod Cuts
 pub mod Same
 pub mod Runs

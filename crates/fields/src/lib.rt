@@ -1,8 +1,9 @@
-// Bytes of a line: where a mark stands, a part, the same bytes, the run of a name. Every function takes
-// whole slices, asks nothing of its caller and writes nothing. What a field says is told in `values`, and
-// how a line is cut in `cutting`.
+// Bytes of a line: where a mark stands, a part, the same bytes, the run of a name. Every public function
+// takes whole slices and asks nothing of its caller; none writes. What a field says is told in `values`,
+// and how a line is cut in `cutting`.
 ghost use mathlib.Core.Path.{_≡_};
-ghost use Prim.Native.Nat.{_+_, _-_, _<_};
+ghost use Prim.Native.Nat.{ℕ, _+_, _-_, _≤_, _<_};
+ghost use lib.ListN.{getD};
 ghost use Rattle.fields.specs.Bytes.{pieceOf, sameBytes, isLetter, isNameByte, FirstAt, RunEnd};
 
 // A number that was read, or that the bytes are none.
@@ -23,8 +24,7 @@ pub enum FourFields {
     NotFour,
 }
 
-// The first place from `from` on at which s has the byte m, or the end of s. Four bytes a turn, which
-// halves the steps.
+// The first place from `from` on at which s has the byte m, or the end of s. Four bytes by one test.
 pub fn find(s: &[u8], m: u8, from: usize) -> usize
     ensures { λ r. ⌜ FirstAt (now (s .entry)) m from r ⌝ }
 {
@@ -33,17 +33,8 @@ pub fn find(s: &[u8], m: u8, from: usize) -> usize
         if s.len() - i < 4 {
             return find_near(s, m, i);
         }
-        if s[i] == m {
-            return i;
-        }
-        if s[i + 1] == m {
-            return i + 1;
-        }
-        if s[i + 2] == m {
-            return i + 2;
-        }
-        if s[i + 3] == m {
-            return i + 3;
+        if apart(s, m, i) == 0 {
+            return in_four(s, m, i);
         }
         i += 4;
     }
@@ -62,6 +53,36 @@ fn find_near(s: &[u8], m: u8, from: usize) -> usize
         i += 1;
     }
     s.len()
+}
+
+// 0 exactly if one of the four bytes from i on is m.
+fn apart(s: &[u8], m: u8, i: usize) -> u32
+    requires { do ⌜ i + 4 ≤ (← ⟦s.len()⟧) ⌝ }
+    ensures none { λ r. ⌜ (0 < r → (k : ℕ) → k < 4 → getD (now (s .entry)) (i + k) 0 ≡ m → ⊥) ⌝ }
+    ensures some { λ r. ⌜ (r ≡ 0 → (k : ℕ) × (k < 4) × (getD (now (s .entry)) (i + k) 0 ≡ m)) ⌝ }
+{
+    ((s[i] ^ m) as u32)
+        * ((s[i + 1] ^ m) as u32)
+        * ((s[i + 2] ^ m) as u32)
+        * ((s[i + 3] ^ m) as u32)
+}
+
+// The place of the first m among the four bytes from i on, of which one is m.
+fn in_four(s: &[u8], m: u8, i: usize) -> usize
+    requires { do ⌜ i + 4 ≤ (← ⟦s.len()⟧) ⌝ }
+    requires { ⌜ ((k : ℕ) × (k < 4) × (getD (now s) (i + k) 0 ≡ m)) ⌝ }
+    ensures { λ r. ⌜ FirstAt (now (s .entry)) m i r ⌝ }
+{
+    if s[i] == m {
+        return i;
+    }
+    if s[i + 1] == m {
+        return i + 1;
+    }
+    if s[i + 2] == m {
+        return i + 2;
+    }
+    i + 3
 }
 
 // The bytes from place a up to place e, or none where s has no such part.
@@ -112,16 +133,9 @@ pub fn is_letter(b: u8) -> bool
 pub fn is_name_byte(b: u8) -> bool
     ensures { λ r. ⌜ r ≡ isNameByte b ⌝ }
 {
-    if is_letter(b) {
-        return true;
-    }
-    if b < b'0' {
-        return false;
-    }
-    if b <= b'9' {
-        return true;
-    }
-    b == b'_'
+    ((b'A' <= b) & (b <= b'Z'))
+        | ((b'a' <= b) & (b <= b'z'))
+        | (((b'0' <= b) & (b <= b'9')) | (b == b'_'))
 }
 
 // Where the run of name bytes that begins at `at` ends; past the end of s, that end.

@@ -1,6 +1,6 @@
 -- Names and actions: how the answer is found from place to place, and what it tells. Assumes nothing.
 use mathlib.Core.Path.{_≡_, refl, sym, ap, _∙_}
-use mathlib.Core.Bool.{Bool, true, false, _&&_, and-false, and-eq-true-iff, true≢false}
+use mathlib.Core.Bool.{Bool, true, false, _&&_, and-assoc, and-true, and-false, and-eq-true-iff, true≢false}
 use mathlib.Core.List.{List, [], _∷_}
 use Prim.Native.Nat.{ℕ, _+_, _≤_, _<_}
 use native.Mathlib.Omega.{arith}
@@ -13,18 +13,29 @@ use Rattle.fields.proofs.Parts.{headed}
 
 -- ---- all of them name bytes, from place to place
 
-module _ (s : List ℕ) (i : ℕ) where
-  pub names-more : i < length s → isNameByte (getD s i 0) ≡ true → allNameBytes (drop i s) ≡ allNameBytes (drop (i + 1) s)
-  unfolding allNameBytes
-  names-more h e = ap allNameBytes (headed s i h) ∙ ap (λ (t : Bool). t && allNameBytes (drop (i + 1) s)) e
+-- what was found of the first i bytes, and what is left to find, tell it of all
+pub record Found (s : List ℕ) (good : Bool) (i : ℕ) : Type 0 where
+  pub high : i ≤ length s
+  pub told : allNameBytes s ≡ (good && allNameBytes (drop i s))
 
-  pub names-stop : i < length s → isNameByte (getD s i 0) ≡ false → allNameBytes (drop i s) ≡ false
-  unfolding allNameBytes
-  names-stop h e = ap allNameBytes (headed s i h) ∙ ap (λ (t : Bool). t && allNameBytes (drop (i + 1) s)) e
+pub found-none : (s : List ℕ) → Found s true 0
+found-none s = record { high = omega arith; told = refl }
 
-  pub names-end : length s ≤ i → allNameBytes (drop i s) ≡ true
+module _ {s : List ℕ} {good : Bool} {i : ℕ} (f : Found s good i) where
+  pub found-more : {t : Bool} → i < length s → t ≡ isNameByte (getD s i 0) → Found s (good && t) (i + 1)
   unfolding allNameBytes
-  names-end h = rw (drop-of-length-le s h)
+  found-more {t} h e = record {
+    high = omega arith;
+    told =
+        f .told
+        ∙ ap (λ (l : List ℕ). good && allNameBytes l) (headed s i h)
+        ∙ ap (λ (u : Bool). good && (u && allNameBytes (drop (i + 1) s))) (sym e)
+        ∙ sym (and-assoc good t (allNameBytes (drop (i + 1) s)));
+  }
+
+  pub found-all : length s ≤ i → good ≡ allNameBytes s
+  unfolding allNameBytes
+  found-all h = sym (f .told ∙ rw (drop-of-length-le s h) (and-true good))
 
 -- ---- a feature name
 

@@ -8,14 +8,13 @@ use fields::Number;
 fn all_name_bytes(s: &[u8]) -> bool
     ensures { λ r. ⌜ r ≡ allNameBytes (now (s .entry)) ⌝ }
 {
+    let mut good = true;
     let mut i = 0;
     while i < s.len() {
-        if !fields::is_name_byte(s[i]) {
-            return false;
-        }
+        good = good & fields::is_name_byte(s[i]);
         i += 1;
     }
-    true
+    good
 }
 
 // Whether s is a good feature name.
