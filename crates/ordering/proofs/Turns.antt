@@ -1,14 +1,12 @@
 -- Row after row: a row that no product makes is passed over, and any other is put in its place among those before it. Assumes nothing.
 use mathlib.Core.Path.{_≡_, refl, sym, ap, _∙_}
 use mathlib.Core.List.{List, [], _++_}
-use Prim.Native.Nat.{ℕ, _+_, _%_, _≤_, _<_, min}
+use Prim.Native.Nat.{ℕ, _+_, _%_, _<_, min}
 use native.Mathlib.Numerals.{add-one}
 use native.Mathlib.Omega.{arith}
 use lib.ListN.{length, getD, take, drop, length-append, length-drop}
 use lib.Seq.{take-at, drop-append-add, drop-drop}
-use Rattle.products.specs.Sets.{has, In, Least, Finds}
-use Rattle.products.specs.declared.Found.{Found}
-use Rattle.products.specs.declared.Found.the-variants.{At, Nothing}
+use Rattle.products.specs.Sets.{has, In}
 use Rattle.products.proofs.Laws.{has-le}
 use Rattle.ordering.specs.Ordering.{MadeRow, insertBy, none, takes, passes, Orders}
 use Rattle.ordering.specs.Halving.{Level}
@@ -17,23 +15,17 @@ use Rattle.ordering.proofs.Laws.{insert-length, orders-few, orders-leve
 -- ---- whether some product makes the row's move
 
 module _ (t guards sets : List (List ℕ)) (i : ℕ) (w : List ℕ)
-    (both : (p : ℕ) → p < 1024 → has w p ≡ min (has (getD sets (getD (getD t i []) 1 0 % 64) []) p) (has (getD guards i []) p)) (f : Found)
-    (found : Finds _≤_ (In w) f) where
-  pub row-dead : f ≡ Nothing → MadeRow t guards sets i → ⊥
-  row-dead e m =
-      (rw e at found)
-      (m .product)
-      (record { small = m .small; is = omega (arith, both (m .product) (m .small), m .reached, m .held) })
+    (both : (p : ℕ) → p < 1024 → has w p ≡ min (has (getD sets (getD (getD t i []) 1 0 % 64) []) p) (has (getD guards i []) p)) where
+  pub row-dead : ((p : ℕ) → In w p → ⊥) → MadeRow t guards sets i → ⊥
+  row-dead empty m = empty (m .product) (record { small = m .small; is = omega (arith, both (m .product) (m .small), m .reached, m .held) })
 
-  pub row-made : {p : ℕ} → f ≡ At p → MadeRow t guards sets i
-  row-made {p} e =
-      let l : Least _≤_ (In w) p = rw e at found in
-      let s = l .is .small in
-      let h = l .is .is in
-      let q = both p s in
+  pub row-made : (p : ℕ) × In w p → MadeRow t guards sets i
+  row-made (p, m) =
+      let q = both p (m .small) in
+      let h = m .is in
       let a = has-le (getD sets (getD (getD t i []) 1 0 % 64) []) p in
       let b = has-le (getD guards i []) p in
-      record { product = p; small = s; reached = omega arith; held = omega arith }
+      record { product = p; small = m .small; reached = omega arith; held = omega arith }
 
 -- ---- one row more
 

@@ -6,7 +6,6 @@ ghost use Prim.Native.Nat.{ℕ, _+_, _≤_, _<_, min};
 ghost use lib.ListN.{length, take, drop};
 ghost use Rattle.ordering.specs.Ordering.{lessBytes, rowKey, keyAt, MadeRow, insertBy, Orders};
 ghost use Rattle.ordering.specs.Halving.{Level, Between};
-use products::Found;
 
 // Lays the numbers of those of the first `count` moves that some product of its source's set makes into
 // `order`, in order, and answers how many they are.
@@ -53,10 +52,9 @@ fn order_row(
 {
     let row = moves[i];
     let from = row[1] % 64;
-    let made = members::least(products::both(sets[from], guards[i]));
-    let Found::At(_) = made else {
+    if members::is_empty(products::both(sets[from], guards[i])) {
         return kept;
-    };
+    }
     insert(text, moves, order, kept, i);
     kept + 1
 }

@@ -6,17 +6,11 @@ use Rattle.ordering.proofs.order_row.Statement.{statement}
 use Rattle.ordering.proofs.order_row.Tie as tie
 
 returns : tie.Need-returns
-returns c = (
-  λ first l o. orders-pass o (row-dead _ _ _ _ _ (c .before .before .before .both .ensures) _ (c .before .before .least .ensures) (c .enum-told2 .given .1)),
-  search needs,
-)
+returns c = (λ first l o. orders-pass o (row-dead _ _ _ _ _ (c .before .before .both .ensures) (c .before .is-empty .ensures .0 (c .if1 .taken))), search needs)
 
 returns-2 : tie.Need-returns-2
 returns-2 c = (
-  λ first l o.
-      orders-take o (c .insert .ensures)
-      (row-made _ _ _ _ _ (c .before .before .before .before .before .both .ensures) _ (c .before .before .before .before .least .ensures) (c .before .before .enum-told .given .1))
-      l (omega arith),
+  λ first l o. orders-take o (c .insert .ensures) (row-made _ _ _ _ _ (c .before .before .before .before .both .ensures) (c .before .before .before .is-empty .ensures .1 (c .before .before .if1 .left))) l (omega arith),
   search needs,
 )
 
@@ -33,8 +27,6 @@ order-row-spec =
     (λ c. search needs)
     (λ c κs. search needs)
     (λ c κs. search needs)
-    (λ c. search needs)
-    (λ c. search needs)
     returns
     (λ c κs. search needs)
     (λ c. search needs)
