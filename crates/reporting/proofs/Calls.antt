@@ -7,7 +7,7 @@ use Prim.Native.Nat.{ℕ, _-_, _%_, _≤_, _<_, min}
 use native.Mathlib.Omega.{arith}
 use lib.ListN.{length, take, drop}
 use Rattle.text.specs.Text.{limit, Wrote}
-use Rattle.text.proofs.Laws.{wrote-then, wrote-text, wrote-whole, wrote-end, dry-fits, dry-too-long}
+use Rattle.text.proofs.Laws.{wrote-then, wrote-long, wrote-text, wrote-whole, wrote-end, dry-fits, dry-too-long}
 use Rattle.sheet.specs.declared.Counts.{Counts}
 use Rattle.sheet.specs.Sheet.{Sheet}
 use Rattle.sheet.specs.Reading.{kept, refused, readSheet}
@@ -64,10 +64,11 @@ module _ {P Q : Sheet → Type 0} {own own′ l : List ℕ} {n : ℕ} (first : L
       let e = wrote-end w f in
       record { sheet = r; accepted = read; text = vs; report = is; fits = f; is-length = e; laid = wrote-whole w f ∙ ap (λ (i : ℕ). vs ++ drop i l) (sym e) }
 
-  pub copied : {l′ : List ℕ} {k : ℕ} → n ≤ length l → length own ≡ 12288 → n ≤ 12288 → Wrote l 0 (take (n - 0) own′) l′ k → Reported s l l′ k
+  pub copied : {l′ : List ℕ} {k : ℕ} → n ≤ length l → length own < limit → n ≤ length own′ → Wrote l 0 (take (n - 0) own′) l′ k → Reported s l l′ k
   copied fits long whole w =
       let (vs, is, u) = first r p q in
-      let f : length vs ≤ length own = dry-fits u (omega arith) (omega arith) in
+      let same = wrote-long u in
+      let f : length vs ≤ length own = dry-fits u (omega arith) long in
       let e : n - 0 ≡ length vs = omega (arith, wrote-end u f) in
       reported fits is u (rw (e, wrote-text u (omega arith)) at w)
 

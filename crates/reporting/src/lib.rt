@@ -30,7 +30,12 @@ pub enum Answer {
     Refused { number: u8, line: usize },
 }
 
-// A report of an accepted sheet is never as long as this; nothing hangs on it but speed.
+// The buffers, by the number of moves; nothing hangs on these but speed. A report of an accepted sheet is
+// never as long as OWN, and one of fewer moves than FEW seldom as long as SHORT.
+const FEW: usize = 32;
+
+const SHORT: usize = 2048;
+
 const OWN: usize = 12288;
 
 // Lays the report of the sheet `text` into `room`.
@@ -69,8 +74,7 @@ pub fn report(text: &[u8], room: &mut [u8]) -> Answer
     )
 }
 
-// Lays the report into the room, if it fits: by way of a buffer, whose text tells the length. A report
-// that is longer than the buffer is written once more.
+// Lays the report into the room, if it fits, by way of a buffer by the sheet's size.
 fn lay(
     room: &mut [u8],
     c: Counts,
@@ -83,9 +87,24 @@ fn lay(
 ) -> Answer
     ensures { λ a. ⌜ ((s : List ℕ) (r : Sheet) → readSheet s ≡ kept r → Ready c (now (moves .entry)) (now («move_guards» .entry)) (now (stops .entry)) (now («stop_guards» .entry)) (now (sets .entry)) r → Depth r depth → ReportPromise s (now (room .entry)) (now (room .exit)) a) ⌝ }
 {
+    if c.moves < FEW {
+        let mut own = [0u8; SHORT];
+        return lay_by(
+            &mut own,
+            room,
+            c,
+            depth,
+            sets,
+            moves,
+            move_guards,
+            stops,
+            stop_guards,
+        );
+    }
     let mut own = [0u8; OWN];
-    let n = put_report(
+    lay_by(
         &mut own,
+        room,
         c,
         depth,
         sets,
@@ -93,11 +112,29 @@ fn lay(
         move_guards,
         stops,
         stop_guards,
-    );
+    )
+}
+
+// The same by way of the buffer `own`, whose text tells the length. A report that is longer than the buffer
+// is written once more, into the room.
+fn lay_by(
+    own: &mut [u8],
+    room: &mut [u8],
+    c: Counts,
+    depth: usize,
+    sets: &[[u64; 16]; 64],
+    moves: &[[usize; 6]; 256],
+    move_guards: &[[u64; 16]; 256],
+    stops: &[[usize; 2]; 64],
+    stop_guards: &[[u64; 16]; 64],
+) -> Answer
+    ensures { λ a. ⌜ ((s : List ℕ) (r : Sheet) → readSheet s ≡ kept r → Ready c (now (moves .entry)) (now («move_guards» .entry)) (now (stops .entry)) (now («stop_guards» .entry)) (now (sets .entry)) r → Depth r depth → ReportPromise s (now (room .entry)) (now (room .exit)) a) ⌝ }
+{
+    let n = put_report(own, c, depth, sets, moves, move_guards, stops, stop_guards);
     if room.len() < n {
         return refuse(11, 0);
     }
-    if n <= OWN {
+    if n <= own.len() {
         let k = text::put_bytes(room, 0, &own[0..n]);
         return Answer::Done(k);
     }
