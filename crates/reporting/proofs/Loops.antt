@@ -5,12 +5,15 @@ use mathlib.Core.List.{List, [], _∷_, _++_, append-nil, List·Memᴰ, List·Me
 use mathlib.Core.Logic.{⊎-elim}
 use mathlib.Core.Path.{_≡_, refl, sym, ap, _∙_}
 use Prim.Native.Nat.{ℕ, suc, _+_, _-_, _%_, _≤_, _<_, min}
+use native.Mathlib.Decide.{ℕ-discrete}
 use native.Mathlib.Nat.{eq-or-lt-of-le}
 use native.Mathlib.Numerals.{add-one}
 use native.Mathlib.Omega.{arith}
 use borrow.Author.Tests.{eq-eqb, ne-eqb}
+use lib.Bits.{bitOr}
 use lib.Dec.{eqb}
-use lib.ListN.{length, getD, drop, drop-of-length-le, replicate}
+use lib.ListN.{length, getD, drop, drop-of-length-le, replicate, set, length-set}
+use lib.Seq.{getD-set-same, getD-set-other}
 use Rattle.text.specs.Text.{limit, Wrote}
 use Rattle.text.proofs.Laws.{wrote-none, wrote-then, wrote-long}
 use Rattle.products.specs.Sets.{has, oneIf, countTo}
@@ -27,7 +30,7 @@ use Rattle.verdicts.specs.Judging.{MoveSets, StateSets, StopSets, guardsAt, row
 use Rattle.verdicts.proofs.Shown.{Tells, guards-none}
 use Rattle.verdicts.proofs.Meaning.{named-means, count-judged, move-judged, state-judged, stop-judged}
 use Rattle.reporting.specs.Report.{moveRow, stateRow, stopRow, MoveRows, StateRows, StopRows}
-use Rattle.reporting.specs.Promise.{Ready, Outward, Told}
+use Rattle.reporting.specs.Promise.{Ready, Outward, Marked, namedAt, Told}
 use Rattle.sheet.proofs.Accepted.{good-move, good-stop}
 
 -- ---- one row more
@@ -161,15 +164,18 @@ module _ {c : Counts} {m t h sets out : List (List ℕ)} {room : List ℕ} {at :
   states-none l = laid-none l (λ r w. StateRows.none)
 
   pub states-more : {q : ℕ} {room′ room″ : List ℕ} {next next″ : ℕ} → Laid (StatesReady c m t h sets out) StatesUpto room at q room′ next → length room″ ≡ length room′
-      → {leaves ends stopped : List ℕ} → ((q : ℕ) → q < 64 → getD leaves q 0 ≡ oneIf (rowAt m 1 q (min (c .moves) 256)))
-      → ((q : ℕ) → q < 64 → getD ends q 0 ≡ oneIf (rowAt m 4 q (min (c .moves) 256))) → ((q : ℕ) → q < 64 → getD stopped q 0 ≡ oneIf (rowAt t 1 q (min (c .stops) 64)))
-      → ((m g : List (List ℕ)) (r : Sheet) → Ready c m g t h sets r → Told c m g t out leaves ends stopped
+      → {leaves : List ℕ} (ends : List ℕ) {stopped named : List ℕ} → Marked leaves (λ q. rowAt m 1 q (min (c .moves) 256)) → Marked ends (λ q. rowAt m 4 q (min (c .moves) 256))
+      → Marked stopped (λ q. rowAt t 1 q (min (c .stops) 64))
+      → ((a b d : ℕ → Bool) → Marked leaves a → Marked ends b → Marked stopped d → Marked named (λ q. eqb q (c .start % 64) || (a q || (b q || d q))))
+      → ((m g : List (List ℕ)) (r : Sheet) → Ready c m g t h sets r → Told c m g t out leaves stopped named
       → (vs : List ℕ) × ((before : List ℕ) → StateRows _≤_ r q before → StateRows _≤_ r (suc q) (before ++ vs)) × Wrote room′ next vs room″ next″)
       → Laid (StatesReady c m t h sets out) StatesUpto room at (q + 1) room″ next″
   unfolding StatesUpto
-  states-more {q} l e left ended declared f =
+  states-more {q} l e ends {named = named} left ended declared joined f =
+      let by-line : Marked named (namedAt c m t) =
+      joined (λ q. rowAt m 1 q (min (c .moves) 256)) (λ q. rowAt m 4 q (min (c .moves) 256)) (λ q. rowAt t 1 q (min (c .stops) 64)) left ended declared in
       laid-more l e
-      (λ r w. let x = f m (w .guards) r (w .ready) (record { outward = w .outward; left = left; ended = ended; declared = declared }) in
+      (λ r w. let x = f m (w .guards) r (w .ready) (record { outward = w .outward; left = left; declared = declared; by-line = by-line }) in
       (x .0, λ vs s. rw add-one (x .1 vs s), x .2))
 
   pub states-all : {q : ℕ} {room′ : List ℕ} {next : ℕ} → Laid (StatesReady c m t h sets out) StatesUpto room at q room′ next → q ≡ 64
@@ -182,41 +188,79 @@ mark-told : {n : ℕ} (b : Bool) → n ≡ oneIf b → eqb n 1 ≡ b
 mark-told {n} true e = eq-eqb n 1 e
 mark-told {n} false e = ne-eqb n 1 (λ (f : n ≡ 1). omega arith)
 
+-- a mark of 0 is where its test is false
+unmarked : {n : ℕ} (b : Bool) → n ≡ oneIf b → n ≡ 0 → b ≡ false
+unmarked true e z = absurd (omega arith)
+unmarked false e z = refl
+
+marked : {n : ℕ} (b : Bool) → n ≡ oneIf b → (n ≡ 0 → ⊥) → b ≡ true
+marked true e z = refl
+marked false e z = absurd (z e)
+
 -- where no stop line is for the state, none declares anything
 pub none-declared : (t h : List (List ℕ)) (q n : ℕ) {mark : ℕ} → mark ≡ 0 → mark ≡ oneIf (rowAt t 1 q n) → (p : ℕ) → p < 1024 → has (replicate 16 0) p ≡ guardsAt t h q p n
-none-declared t h q n z e p lp = empty-has p ∙ sym (guards-none t h q p n (unmarked (rowAt t 1 q n) (sym e ∙ z)))
-  where
-    unmarked : (b : Bool) → oneIf b ≡ 0 → b ≡ false
-    unmarked true e = absurd (omega arith)
-    unmarked false e = refl
+none-declared t h q n z e p lp = empty-has p ∙ sym (guards-none t h q p n (unmarked (rowAt t 1 q n) e z))
+
+-- ---- which states are named
+
+-- of the first i states each has in `named` what it has in one of the three
+pub record Joined (leaves ends stopped named : List ℕ) (i : ℕ) : Type 0 where
+  pub long : length named ≡ 64
+  pub is : (q : ℕ) → q < i → getD named q 0 ≡ bitOr (bitOr (getD leaves q 0) (getD ends q 0)) (getD stopped q 0)
+
+pub joined-none : {leaves ends stopped : List ℕ} → Joined leaves ends stopped (replicate 64 0) 0
+joined-none = record { long = refl; is = λ q h. absurd (omega arith) }
+
+one-or : (a b d : Bool) → bitOr (bitOr (oneIf a) (oneIf b)) (oneIf d) ≡ oneIf (a || (b || d))
+one-or true true true = refl
+one-or true true false = refl
+one-or true false true = refl
+one-or true false false = refl
+one-or false true true = refl
+one-or false true false = refl
+one-or false false true = refl
+one-or false false false = refl
+
+module _ {leaves ends stopped named : List ℕ} {i : ℕ} (j : Joined leaves ends stopped named i) where
+  pub joined-more : i < 64 → Joined leaves ends stopped (set named i (bitOr (bitOr (getD leaves i 0) (getD ends i 0)) (getD stopped i 0))) (i + 1)
+  joined-more l = record { long = simp length-set (j .long); is = λ q lq. at q lq (ℕ-discrete q i) }
+    where
+      at : (q : ℕ) → q < i + 1 → Dec (q ≡ i)
+          → getD (set named i (bitOr (bitOr (getD leaves i 0) (getD ends i 0)) (getD stopped i 0))) q 0 ≡ bitOr (bitOr (getD leaves q 0) (getD ends q 0)) (getD stopped q 0)
+      at q lq (yes e) = rw e (getD-set-same named i _ 0 (omega (arith, j .long)))
+      at q lq (no ne) = getD-set-other named i q _ 0 ne ∙ j .is q (omega arith)
+
+  pub joined-all : 64 ≤ i → (start : ℕ) (a b d : ℕ → Bool) → Marked leaves a → Marked ends b → Marked stopped d
+      → Marked (set named (start % 64) 1) (λ q. eqb q (start % 64) || (a q || (b q || d q)))
+  joined-all l start a b d x y z q lq = at (ℕ-discrete q (start % 64))
+    where
+      at : Dec (q ≡ start % 64) → getD (set named (start % 64) 1) q 0 ≡ oneIf (eqb q (start % 64) || (a q || (b q || d q)))
+      at (yes e) = rw (eq-eqb q (start % 64) e) (ap (λ (k : ℕ). getD (set named (start % 64) 1) k 0) e ∙ getD-set-same named (start % 64) 1 0 (omega (arith, j .long)))
+      at (no ne) = rw (ne-eqb q (start % 64) ne) (getD-set-other named (start % 64) q 1 0 ne ∙ j .is q (omega arith) ∙ rw (x q lq, y q lq, z q lq) (one-or (a q) (b q) (d q)))
+
+-- the rows tell which states are named: the start of an accepted sheet is below 64
+named-told : {c : Counts} {m g t h sets : List (List ℕ)} {r : Sheet} (q : ℕ) → Ready c m g t h sets r → Tells (namedAt c m t q) (Named r q)
+named-told {c} q w =
+    let small : c .start % 64 ≡ c .start = omega (arith, w .accepted .start, w .stands .start) in
+    rw small (named-means (w .stands) q)
 
 -- one state: no row where no line names it, else its row
-module _ {c : Counts} {t h sets out : List (List ℕ)} {leaves ends stopped : List ℕ} {q : ℕ} {b : Bool}
-    (n : b ≡ (eqb q (c .start) || (eqb (getD leaves q 0) 1 || (eqb (getD ends q 0) 1 || eqb (getD stopped q 0) 1)))) (lq : q < 64) where
-  named-told : {m g : List (List ℕ)} {r : Sheet} → Ready c m g t h sets r → Told c m g t out leaves ends stopped → Tells b (Named r q)
-  named-told {m} w k =
-      rw (
-        n,
-        mark-told (rowAt m 1 q (min (c .moves) 256)) (k .left q lq),
-        mark-told (rowAt m 4 q (min (c .moves) 256)) (k .ended q lq),
-        mark-told (rowAt t 1 q (min (c .stops) 64)) (k .declared q lq),
-      )
-      (named-means (w .stands) q)
-
-  pub state-passed : b ≡ false → {room : List ℕ} {at : ℕ} → length room ≤ limit → (m g : List (List ℕ)) (r : Sheet) → Ready c m g t h sets r → Told c m g t out leaves ends stopped
+module _ {c : Counts} {t h sets out : List (List ℕ)} {leaves stopped named : List ℕ} {q : ℕ} (lq : q < 64) where
+  pub state-passed : getD named q 0 ≡ 0 → {room : List ℕ} {at : ℕ} → length room ≤ limit
+      → (m g : List (List ℕ)) (r : Sheet) → Ready c m g t h sets r → Told c m g t out leaves stopped named
       → (vs : List ℕ) × ((before : List ℕ) → StateRows _≤_ r q before → StateRows _≤_ r (suc q) (before ++ vs)) × Wrote room at vs room at
-  state-passed f l m g r w k = ([], λ before s. rw (append-nil before) (StateRows.other (named-told w k .not-so f) s), wrote-none l)
+  state-passed z l m g r w k = ([], λ before s. rw (append-nil before) (StateRows.other (named-told q w .not-so (unmarked (namedAt c m t q) (k .by-line q lq) z)) s), wrote-none l)
 
   pub state-laid : (v : StateVerdict) {k at next : ℕ} {room room′ : List ℕ} → Wrote room at (stateRow q v k) room′ next → k ≡ countTo (getD sets q []) 1024
-      → b ≡ true → (declared : List ℕ)
+      → (getD named q 0 ≡ 0 → ⊥) → (declared : List ℕ)
       → (getD stopped q 0 ≡ oneIf (rowAt t 1 q (min (c .stops) 64)) → (p : ℕ) → p < 1024 → has declared p ≡ guardsAt t h q p (min (c .stops) 64))
       → StateSets (getD sets q []) (eqb (getD leaves q 0) 1) (getD out q []) declared v
-      → (m g : List (List ℕ)) (r : Sheet) → Ready c m g t h sets r → Told c m g t out leaves ends stopped
+      → (m g : List (List ℕ)) (r : Sheet) → Ready c m g t h sets r → Told c m g t out leaves stopped named
       → (vs : List ℕ) × ((before : List ℕ) → StateRows _≤_ r q before → StateRows _≤_ r (suc q) (before ++ vs)) × Wrote room at vs room′ next
   state-laid v {k} l e f declared d x m g r w told = (
     stateRow q v k,
     λ before s.
-        StateRows.named {k = k} v (named-told w told .so f)
+        StateRows.named {k = k} v (named-told q w .so (marked (namedAt c m t q) (told .by-line q lq) f))
         (state-judged (w .accepted) (w .reaches) (w .stands) lq (getD out q []) (told .outward q lq) declared (d (told .declared q lq))
         (mark-told (rowAt m 1 q (min (c .moves) 256)) (told .left q lq)) v x)
         (rw e (count-judged (w .accepted) (w .reaches) lq)) s,

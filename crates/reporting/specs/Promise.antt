@@ -1,8 +1,10 @@
 -- What `report` promises, for every sheet and every room. Assumes nothing: these are definitions.
+use mathlib.Core.Bool.{Bool, _||_}
 use mathlib.Core.List.{List, [], _++_}
 use mathlib.Core.Logic.{_⊎_}
 use mathlib.Core.Path.{_≡_}
-use Prim.Native.Nat.{ℕ, _≤_, _<_, min}
+use Prim.Native.Nat.{ℕ, _%_, _≤_, _<_, min}
+use lib.Dec.{eqb}
 use lib.ListN.{length, drop, getD}
 use Rattle.products.specs.Sets.{has, oneIf}
 use Rattle.sheet.specs.declared.Counts.{Counts}
@@ -54,9 +56,17 @@ pub record Ready (c : Counts) (m g t h sets : List (List ℕ)) (r : Sheet) : Typ
 abbrev pub Outward : Counts → List (List ℕ) → List (List ℕ) → List (List ℕ) → Type 0
 Outward c m g out = (q : ℕ) → q < 64 → (p : ℕ) → p < 1024 → has (getD out q []) p ≡ guardsAt m g q p (min (c .moves) 256)
 
--- what one pass over the rows told of each state: `out`, and 1 or 0 for whether a move line leaves it, whether one ends in it, whether a stop line is for it
-pub record Told (c : Counts) (m g t out : List (List ℕ)) (leaves ends stopped : List ℕ) : Type 0 where
+-- 1 or 0 for each state, by a test
+abbrev pub Marked : List ℕ → (ℕ → Bool) → Type 0
+Marked marks f = (q : ℕ) → q < 64 → getD marks q 0 ≡ oneIf (f q)
+
+-- whether a start, move or stop line names the state q, by the rows
+abbrev pub namedAt : Counts → List (List ℕ) → List (List ℕ) → ℕ → Bool
+namedAt c m t q = eqb q (c .start % 64) || (rowAt m 1 q (min (c .moves) 256) || (rowAt m 4 q (min (c .moves) 256) || rowAt t 1 q (min (c .stops) 64)))
+
+-- what one pass over the rows told of each state: `out`, and 1 or 0 for whether a move line leaves it, whether a stop line is for it, whether any line names it
+pub record Told (c : Counts) (m g t out : List (List ℕ)) (leaves stopped named : List ℕ) : Type 0 where
   pub outward : Outward c m g out
-  pub left : (q : ℕ) → q < 64 → getD leaves q 0 ≡ oneIf (rowAt m 1 q (min (c .moves) 256))
-  pub ended : (q : ℕ) → q < 64 → getD ends q 0 ≡ oneIf (rowAt m 4 q (min (c .moves) 256))
-  pub declared : (q : ℕ) → q < 64 → getD stopped q 0 ≡ oneIf (rowAt t 1 q (min (c .stops) 64))
+  pub left : Marked leaves (λ q. rowAt m 1 q (min (c .moves) 256))
+  pub declared : Marked stopped (λ q. rowAt t 1 q (min (c .stops) 64))
+  pub by-line : Marked named (namedAt c m t)

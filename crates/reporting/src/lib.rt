@@ -3,7 +3,7 @@
 mod row;
 
 ghost use mathlib.Core.Path.{_≡_};
-ghost use mathlib.Core.Bool.{_||_};
+ghost use mathlib.Core.Bool.{Bool, _||_};
 ghost use mathlib.Core.List.{List, _++_};
 ghost use Prim.Native.Nat.{ℕ, suc, _%_, _≤_, _<_, min};
 ghost use lib.Dec.{eqb};
@@ -15,7 +15,7 @@ ghost use Rattle.sheet.specs.Reading.{kept, readSheet};
 ghost use Rattle.verdicts.specs.Judging.{MoveSets, guardsAt, rowAt};
 ghost use Rattle.family.specs.Ways.{Depth};
 ghost use Rattle.reporting.specs.Report.{IsReport, MoveRows, StateRows, StopRows};
-ghost use Rattle.reporting.specs.Promise.{ReportPromise, Ready, Outward, Told};
+ghost use Rattle.reporting.specs.Promise.{ReportPromise, Ready, Outward, Marked, Told};
 use row::put_depth;
 use row::put_move;
 use row::put_state;
@@ -231,6 +231,7 @@ fn put_states(
     let leaves = verdicts::states_at(c.moves, moves, 1);
     let ends = verdicts::states_at(c.moves, moves, 4);
     let stopped = verdicts::stopped_states(c.stops, stops);
+    let named = named_states(c.start, &leaves, &ends, &stopped);
     let mut next = at;
     let mut q = 0;
     while q < 64 {
@@ -242,14 +243,33 @@ fn put_states(
             sets,
             out,
             &leaves,
-            &ends,
             &stopped,
+            &named,
             stops,
             stop_guards,
         );
         q += 1;
     }
     next
+}
+
+// For each state 1 if a start, move or stop line names it, else 0.
+fn named_states(
+    start: usize,
+    leaves: &[u64; 64],
+    ends: &[u64; 64],
+    stopped: &[u64; 64],
+) -> [u64; 64]
+    ensures { λ r. ⌜ ((a b d : ℕ → Bool) → Marked (now (leaves .entry)) a → Marked (now (ends .entry)) b → Marked (now (stopped .entry)) d → Marked r (λ q. eqb q (start % 64) || (a q || (b q || d q)))) ⌝ }
+{
+    let mut named = [0u64; 64];
+    let mut i = 0;
+    while i < 64 {
+        named[i] = leaves[i] | ends[i] | stopped[i];
+        i += 1;
+    }
+    named[start % 64] = 1;
+    named
 }
 
 // The row of the state q, or nothing where no line names it.
@@ -261,44 +281,21 @@ fn put_state_at(
     sets: &[[u64; 16]; 64],
     out: &[[u64; 16]; 64],
     leaves: &[u64; 64],
-    ends: &[u64; 64],
     stopped: &[u64; 64],
+    named: &[u64; 64],
     stops: &[[usize; 2]; 64],
     stop_guards: &[[u64; 16]; 64],
 ) -> usize
     requires { ⌜ q < 64 ⌝ }
-    ensures { λ n. ⌜ ((m g : List (List ℕ)) (r : Sheet) → Ready c m g (now (stops .entry)) (now («stop_guards» .entry)) (now (sets .entry)) r → Told c m g (now (stops .entry)) (now (out .entry)) (now (leaves .entry)) (now (ends .entry)) (now (stopped .entry)) → (vs : List ℕ) × ((before : List ℕ) → StateRows _≤_ r q before → StateRows _≤_ r (suc q) (before ++ vs)) × Wrote (now (room .entry)) at vs (now (room .exit)) n) ⌝ }
+    ensures { λ n. ⌜ ((m g : List (List ℕ)) (r : Sheet) → Ready c m g (now (stops .entry)) (now («stop_guards» .entry)) (now (sets .entry)) r → Told c m g (now (stops .entry)) (now (out .entry)) (now (leaves .entry)) (now (stopped .entry)) (now (named .entry)) → (vs : List ℕ) × ((before : List ℕ) → StateRows _≤_ r q before → StateRows _≤_ r (suc q) (before ++ vs)) × Wrote (now (room .entry)) at vs (now (room .exit)) n) ⌝ }
 {
-    if !is_named(q, c.start, leaves, ends, stopped) {
+    if named[q] == 0 {
         return at;
     }
     let here = sets[q];
     let declared = declared_at(q, c.stops, stopped, stops, stop_guards);
     let v = verdicts::judge_state(here, leaves[q] == 1, out[q], declared);
     put_state(room, at, q, v, members::count(here))
-}
-
-// Whether a start, move or stop line names the state q.
-fn is_named(
-    q: usize,
-    start: usize,
-    leaves: &[u64; 64],
-    ends: &[u64; 64],
-    stopped: &[u64; 64],
-) -> bool
-    requires { ⌜ q < 64 ⌝ }
-    ensures { λ r. ⌜ r ≡ (eqb q start || (eqb (getD (now (leaves .entry)) q 0) 1 || (eqb (getD (now (ends .entry)) q 0) 1 || eqb (getD (now (stopped .entry)) q 0) 1))) ⌝ }
-{
-    if q == start {
-        return true;
-    }
-    if leaves[q] == 1 {
-        return true;
-    }
-    if ends[q] == 1 {
-        return true;
-    }
-    stopped[q] == 1
 }
 
 // The products in which a stop line of q holds: none, if no stop line is for it.

@@ -8,10 +8,10 @@ use Rattle.reporting.proofs.put_states.Statement.{statement}
 use Rattle.reporting.proofs.put_states.Tie as tie
 
 abbrev Inv-loop : tie.InvT-loop
-Inv-loop room₀ at c sets out moves stops stop-guards leaves ends stopped next₀ q₀ room next q = (q ≤ 64) × Laid (StatesReady c moves stops stop-guards sets out) StatesUpto room₀ at q room next
+Inv-loop room₀ at c sets out moves stops stop-guards leaves stopped named next₀ q₀ room next q = (q ≤ 64) × Laid (StatesReady c moves stops stop-guards sets out) StatesUpto room₀ at q room next
 
 abbrev μ-loop : tie.MeasureT-loop
-μ-loop room₀ at c sets out moves stops stop-guards leaves ends stopped next₀ q₀ room next q = 64 - q
+μ-loop room₀ at c sets out moves stops stop-guards leaves stopped named next₀ q₀ room next q = 64 - q
 
 loop-holds : tie.Need-loop-holds Inv-loop μ-loop
 loop-holds c = (omega arith, states-none (search needs))
@@ -20,10 +20,12 @@ loop-again : tie.Need-loop-again Inv-loop μ-loop
 loop-again c = (
   omega arith,
   let turn = c .before .before .before .before .before .before .before .before in
-      let stopped = turn .before in
+      let named = turn .before in
+      let stopped = named .before .before .before .before in
       let ended = stopped .before in
       let left = ended .before in
-      states-more (turn .loop .inv .1) (search needs) (left .states-at .ensures) (ended .states-at2 .ensures) (stopped .stopped-states .ensures) (c .before .before .put-state-at .ensures),
+      states-more (turn .loop .inv .1) (search needs) (ended .states-at2 .result) (left .states-at .ensures) (ended .states-at2 .ensures) (stopped .stopped-states .ensures) (named .named-states .ensures)
+      (c .before .before .put-state-at .ensures),
 )
 
 same-length : tie.Need-same-length Inv-loop μ-loop
@@ -38,6 +40,7 @@ put-states-spec =
     (tie.spec
     Inv-loop
     μ-loop
+    (λ c κs. search needs)
     (λ c κs. search needs)
     (λ c κs. search needs)
     (λ c κs. search needs)
