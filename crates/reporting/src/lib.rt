@@ -171,7 +171,8 @@ fn put_report(
 ) -> usize
     ensures { λ n. ⌜ ((r : Sheet) → Ready c (now (moves .entry)) (now («move_guards» .entry)) (now (stops .entry)) (now («stop_guards» .entry)) (now (sets .entry)) r → Depth r depth → (vs : List ℕ) × IsReport _≤_ r vs × Wrote (now (room .entry)) 0 vs (now (room .exit)) n) ⌝ }
 {
-    let out = verdicts::all_out(c.moves, moves, move_guards);
+    let mut out = [[0u64; 16]; 64];
+    verdicts::all_out(c.moves, moves, move_guards, &mut out);
     let a = put_moves(room, 0, c, sets, moves, move_guards);
     let b = put_states(room, a, c, sets, &out, moves, stops, stop_guards);
     let d = put_stops(room, b, c, sets, &out, stops, stop_guards);
@@ -254,15 +255,10 @@ fn put_states(
 }
 
 // For each state 1 if a start, move or stop line names it, else 0.
-fn named_states(
-    start: usize,
-    leaves: &[u64; 64],
-    ends: &[u64; 64],
-    stopped: &[u64; 64],
-) -> [u64; 64]
+fn named_states(start: usize, leaves: &[u8; 64], ends: &[u8; 64], stopped: &[u8; 64]) -> [u8; 64]
     ensures { λ r. ⌜ ((a b d : ℕ → Bool) → Marked (now (leaves .entry)) a → Marked (now (ends .entry)) b → Marked (now (stopped .entry)) d → Marked r (λ q. eqb q (start % 64) || (a q || (b q || d q)))) ⌝ }
 {
-    let mut named = [0u64; 64];
+    let mut named = [0u8; 64];
     let mut i = 0;
     while i < 64 {
         named[i] = leaves[i] | ends[i] | stopped[i];
@@ -280,9 +276,9 @@ fn put_state_at(
     c: Counts,
     sets: &[[u64; 16]; 64],
     out: &[[u64; 16]; 64],
-    leaves: &[u64; 64],
-    stopped: &[u64; 64],
-    named: &[u64; 64],
+    leaves: &[u8; 64],
+    stopped: &[u8; 64],
+    named: &[u8; 64],
     stops: &[[usize; 2]; 64],
     stop_guards: &[[u64; 16]; 64],
 ) -> usize
@@ -302,7 +298,7 @@ fn put_state_at(
 fn declared_at(
     q: usize,
     count: usize,
-    stopped: &[u64; 64],
+    stopped: &[u8; 64],
     stops: &[[usize; 2]; 64],
     stop_guards: &[[u64; 16]; 64],
 ) -> [u64; 16]

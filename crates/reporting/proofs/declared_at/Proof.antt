@@ -15,7 +15,6 @@ declared-at-spec =
     tie.close
     (tie.spec
     (λ c. search needs)
-    (λ c. search needs)
     returns
     (λ c κs. search needs)
     returns-2)

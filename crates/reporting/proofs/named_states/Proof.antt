@@ -33,11 +33,6 @@ named-states-spec =
     (λ c. search needs)
     (λ c. search needs)
     (λ c. search needs)
-    (λ c. search needs)
-    (λ c. search needs)
-    (λ c. search needs)
-    (λ c. search needs)
     loop-again
-    (λ c. search needs)
     (λ c. search needs)
     returns)
