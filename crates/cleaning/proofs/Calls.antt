@@ -8,7 +8,7 @@ use native.Mathlib.Nat.{eq-or-lt-of-le}
 use native.Mathlib.Omega.{arith}
 use lib.ListN.{length, getD, take, drop}
 use Rattle.text.specs.Text.{limit, Wrote}
-use Rattle.text.proofs.Laws.{wrote-then, wrote-text, wrote-whole, wrote-end, dry-place}
+use Rattle.text.proofs.Laws.{wrote-then, wrote-long, wrote-text, wrote-whole, wrote-end, dry-place}
 use Rattle.guards.specs.Guard.{Guard}
 use Rattle.guards.specs.Reading.{namesOf}
 use Rattle.sheet.specs.declared.Counts.{Counts}
@@ -114,11 +114,12 @@ module _ {s order : List ℕ} {c : Counts} {T : Tables} {sets : List (List ℕ)}
         laid = wrote-whole w fits ∙ ap (λ (i : ℕ). vs ++ drop i l) (sym e);
       }
 
-  -- the text was copied from the room of its own that it fits
-  pub copied : {d d′ l l′ : List ℕ} {n k most : ℕ} → Lays d d′ n → Wrote l 0 (take (n - 0) (drop 0 d′)) l′ k → n ≤ length d → most ≡ min (length l) 65536 → n ≤ most → Cleaned s l l′ k
+  -- the text was copied from the buffer, which it fits
+  pub copied : {d d′ l l′ : List ℕ} {n k most : ℕ} → Lays d d′ n → Wrote l 0 (take (n - 0) (drop 0 d′)) l′ k → n ≤ length d′ → most ≡ min (length l) 65536 → n ≤ most → Cleaned s l l′ k
   copied {n = n} run w own e h =
       let (vs, is, v) = lays run in
       let place = dry-place v in
+      let same = wrote-long v in
       let long : n - 0 ≡ length vs = omega arith in
       cleaned is (rw (long, wrote-text v (omega arith)) at w) (omega arith)
 

@@ -32,6 +32,11 @@ const MOST_BYTES: usize = 65536;
 // Nearly every clean sheet is shorter.
 const OWN_BYTES: usize = 12288;
 
+// A sheet of fewer move lines is laid by way of SHORT bytes.
+const FEW: usize = 32;
+
+const SHORT: usize = 2048;
+
 // Lays the clean form of the sheet `text` into `room`.
 pub fn clean(text: &[u8], room: &mut [u8]) -> Answer
     ensures { λ r. ⌜ CleanPromise (now (text .entry)) (now (room .entry)) (now (room .exit)) r ⌝ }
@@ -72,8 +77,8 @@ pub fn clean(text: &[u8], room: &mut [u8]) -> Answer
     )
 }
 
-// Lays the clean sheet into the room if it is not too long. It is made in a room of its own, which
-// tells its length; what outgrows that one is made again in the room itself.
+// Lays the clean sheet into the room if it is not too long, by way of a buffer: a small one where the
+// move lines are few.
 fn lay(
     room: &mut [u8],
     text: &[u8],
@@ -88,9 +93,26 @@ fn lay(
 ) -> Answer
     ensures { λ r. ⌜ ((t h : List (List ℕ)) → Prepared (now (text .entry)) c (tables (now (names .entry)) valid (now (moves .entry)) (now (guards .entry)) t h) (now (sets .entry)) (now (rows .entry)) kept → CleanPromise (now (text .entry)) (now (room .entry)) (now (room .exit)) r) ⌝ }
 {
+    if c.moves < FEW {
+        let mut own = [0u8; SHORT];
+        return lay_by(
+            &mut own,
+            room,
+            text,
+            c,
+            names,
+            valid,
+            moves,
+            guards,
+            sets,
+            rows,
+            kept,
+        );
+    }
     let mut own = [0u8; OWN_BYTES];
-    let n = put_clean(
+    lay_by(
         &mut own,
+        room,
         text,
         c,
         names,
@@ -100,11 +122,31 @@ fn lay(
         sets,
         rows,
         kept,
-    );
+    )
+}
+
+// The clean sheet is made in the buffer `own`, which tells its length; what outgrows the buffer is made
+// again in the room itself.
+fn lay_by(
+    own: &mut [u8],
+    room: &mut [u8],
+    text: &[u8],
+    c: Counts,
+    names: &[[usize; 2]; 10],
+    valid: [u64; 16],
+    moves: &[[usize; 6]; 256],
+    guards: &[[u64; 16]; 256],
+    sets: &[[u64; 16]; 64],
+    rows: &[usize; 256],
+    kept: usize,
+) -> Answer
+    ensures { λ r. ⌜ ((t h : List (List ℕ)) → Prepared (now (text .entry)) c (tables (now (names .entry)) valid (now (moves .entry)) (now (guards .entry)) t h) (now (sets .entry)) (now (rows .entry)) kept → CleanPromise (now (text .entry)) (now (room .entry)) (now (room .exit)) r) ⌝ }
+{
+    let n = put_clean(own, text, c, names, valid, moves, guards, sets, rows, kept);
     if counts::at_most(room.len(), MOST_BYTES) < n {
         return refuse(11, 0);
     }
-    if n <= OWN_BYTES {
+    if n <= own.len() {
         let k = text::put_bytes(room, 0, &own[0..n]);
         return Answer::Done(k);
     }

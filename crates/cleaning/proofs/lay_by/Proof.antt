@@ -1,0 +1,50 @@
+-- `lay_by`: refused by 11, with the room as it was, by what the first run tells; copied from that run's buffer; or made once more. Assumes nothing.
+use Rattle.cleaning.proofs.Calls.{too-long, copied, again}
+use borrow.Author.Needs.{needs}
+use Rattle.cleaning.proofs.lay_by.Statement.{statement}
+use Rattle.cleaning.proofs.lay_by.Tie as tie
+
+returns : tie.Need-returns
+returns c = λ t h p.
+    let test = c .before in
+    let most = test .before in
+    let run = most .before .before .before in
+    rw (c .refuse .ensures) (too-long p _ (run .put-clean .ensures t h) (most .at-most .ensures) (test .if1 .taken))
+
+returns-2 : tie.Need-returns-2
+returns-2 c = λ t h p.
+    let copy = c .before .before in
+    let fits = copy .before .before .before .before in
+    let test = fits .before in
+    let most = test .before in
+    let run = most .before .before .before in
+    copied p (run .put-clean .ensures t h) (copy .put-bytes .ensures) (fits .if2 .taken) (most .at-most .ensures) (test .if1 .left)
+
+returns-3 : tie.Need-returns-3
+returns-3 c = λ t h p.
+    let once-more = c .before .before in
+    let test = once-more .before .before .before in
+    let most = test .before in
+    let run = most .before .before .before in
+    again p (run .put-clean .ensures t h) (once-more .put-clean2 .ensures t h) (most .at-most .ensures) (test .if1 .left)
+
+pub lay-by-spec : {M : Type 1} → statement M
+lay-by-spec =
+    tie.close
+    (tie.spec
+    (λ c κs. search needs)
+    (λ c κs. search needs)
+    (λ c κs. search needs)
+    (λ c. search needs)
+    returns
+    (λ c. search needs)
+    (λ c. search needs)
+    (λ c. search needs)
+    (λ c κs. search needs)
+    (λ c. search needs)
+    (λ c. search needs)
+    returns-2
+    (λ c κs. search needs)
+    (λ c. search needs)
+    (λ c. search needs)
+    returns-3)
