@@ -276,7 +276,8 @@ fn put_stops(
 ) -> usize
     ensures { λ r. ⌜ ((ds : List Stop) × StopsBelow (min features 10) (now (moves .entry)) (now (guards .entry)) (now (sets .entry)) (min count 256) 64 ds × Wrote (now (room .entry)) at (linesOf (stopRow (namesOf (now (text .entry)) (now (names .entry)) (min features 10))) ds) (now (room .exit)) r) ⌝ }
 {
-    let out = verdicts::all_out(count, moves, guards);
+    let mut out = [[0u64; 16]; 64];
+    verdicts::all_out(count, moves, guards, &mut out);
     let leaves = verdicts::states_at(count, moves, 1);
     let mut next = at;
     let mut q = 0;

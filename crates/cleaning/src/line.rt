@@ -105,7 +105,7 @@ pub(crate) fn put_stop(
     names: &[[usize; 2]; 10],
     features: usize,
     q: usize,
-    leaves: u64,
+    leaves: u8,
     here: [u64; 16],
     out: [u64; 16],
 ) -> usize

@@ -1,8 +1,10 @@
 -- `put_stops` meets its contract: the lines laid so far are those of the states below q. The measure is the number of states left. Assumes
 -- nothing.
+use mathlib.Core.Path.{refl}
 use Prim.Native.Nat.{_≤_, _-_, min}
 use native.Mathlib.Omega.{arith}
 use Rattle.text.proofs.Laws.{wrote-long}
+use Rattle.verdicts.proofs.Gathered.{out-of-blank}
 use Rattle.cleaning.proofs.Loops.{StopsLaid, stops-none, stops-more, stops-all, out-none}
 use borrow.Author.Needs.{needs}
 use Rattle.cleaning.proofs.put_stops.Statement.{statement}
@@ -22,7 +24,8 @@ loop-again c =
     let put = c .before .before in
     let test = put .before .before .before .before in
     let loop = test .before in
-    let out = loop .before .before .all-out .ensures _ (test .loop-test .taken) in
+    let table = loop .before .before in
+    let out = out-of-blank _ _ _ (table .all-out .last .1 .1 .1 .0) refl (table .all-out .ensures) _ (test .loop-test .taken) in
     let mark = loop .before .states-at .ensures _ (test .loop-test .taken) in
     (omega arith, stops-more (loop .loop .inv .1) _ out (put .put-stop .ensures (out-none _ _ _ _ _ mark out)))
 
@@ -41,7 +44,6 @@ put-stops-spec =
     (λ c κs. search needs)
     (λ c κs. search needs)
     loop-holds
-    (λ c. search needs)
     (λ c. search needs)
     (λ c. search needs)
     (λ c. search needs)
