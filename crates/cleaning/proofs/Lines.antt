@@ -8,9 +8,7 @@ use native.Mathlib.Omega.{arith}
 use lib.Dec.{eqb}
 use lib.ListN.{length}
 use lib.Pow.{pow-mono}
-use Rattle.products.specs.declared.Found.{Found}
-use Rattle.products.specs.declared.Found.the-variants.{At, Nothing}
-use Rattle.products.specs.Sets.{has, In, Finds}
+use Rattle.products.specs.Sets.{has, In}
 use Rattle.products.proofs.Laws.{has-le}
 use Rattle.text.specs.Text.{limit, Wrote}
 use Rattle.text.proofs.Laws.{wrote-none, wrote-then}
@@ -20,7 +18,7 @@ use Rattle.sheet.specs.Sheet.{Stop}
 use Rattle.sheet.specs.Reading.{moveWord}
 use Rattle.sheet.specs.Spelling.{stopFields, stopRow}
 use Rattle.verdicts.specs.Judging.{InBoth, InOnly}
-use Rattle.verdicts.proofs.Agreeing.{none-as, found-at, found-none, both-agree, only-agree}
+use Rattle.verdicts.proofs.Agreeing.{none-as, both-agree, only-agree}
 use Rattle.splitting.specs.Splitting.{inSet, guardOf}
 use Rattle.splitting.proofs.Laws.{guard-ext}
 use Rattle.cleaning.specs.Forms.{lineOf, linesOf, MadeGuard, StopAt}
@@ -106,16 +104,16 @@ module _ (a b r : List ℕ) (n : ℕ) (h : n ≤ 10) where
 -- ---- a kept move's guard
 
 module _ {here guard : List ℕ} (names : List (List ℕ)) {n : ℕ} (h : n ≤ 10) (missed : List ℕ) (without : (p : ℕ) → p < 1024 → has missed p ≡ has here p - has guard p)
-    {f : Found} (k : Finds _≤_ (In missed) f) {l l′ : List ℕ} {at next : ℕ} where
-  pub made-full : f ≡ Nothing → Wrote l at (49 ∷ []) l′ next → (g : Guard) × MadeGuard n here guard g × Wrote l at (print g names []) l′ next
+    {l l′ : List ℕ} {at next : ℕ} where
+  pub made-full : ((p : ℕ) → In missed p → ⊥) → Wrote l at (49 ∷ []) l′ next → (g : Guard) × MadeGuard n here guard g × Wrote l at (print g names []) l′ next
   unfolding print
-  made-full e w = (always, MadeGuard.full (none-as (only-agree without) (found-none _≤_ (In missed) k e)), w)
+  made-full none w = (always, MadeGuard.full (none-as (only-agree without) none), w)
 
-  pub made-split : {p : ℕ} → f ≡ At p → (both : List ℕ) → ((p : ℕ) → p < 1024 → has both p ≡ min (has here p) (has guard p))
+  pub made-split : (p : ℕ) × In missed p → (both : List ℕ) → ((p : ℕ) → p < 1024 → has both p ≡ min (has here p) (has guard p))
       → Wrote l at (print (guardOf 0 n (inSet both)) names []) l′ next → (g : Guard) × MadeGuard n here guard g × Wrote l at (print g names []) l′ next
-  made-split {p} e both b w = (
+  made-split (p, i) both b w = (
     guardOf 0 n (λ q. inSet here q && inSet guard q),
-    MadeGuard.split p (only-agree without .there p (found-at _≤_ (In missed) k e .is)),
+    MadeGuard.split p (only-agree without .there p i),
     wrote-as w (ap (λ (g : Guard). print g names []) (guard-both here guard both n h b)),
   )
 
@@ -125,20 +123,20 @@ module _ {here out : List ℕ} (names : List (List ℕ)) {n q : ℕ} {l : List �
   pub stop-idle : ((p : ℕ) → p < 1024 → has out p ≡ 0) → length l ≤ limit → (ds : List Stop) × StopAt n here out q ds × Wrote l at (linesOf (stopRow names) ds) l at
   stop-idle none h = ([], StopAt.dead (λ p i. omega (arith, none p (i .first .small), i .second)), rw (lines-none (stopRow names)) (wrote-none h))
 
-  pub stop-dead : (both : List ℕ) → ((p : ℕ) → p < 1024 → has both p ≡ min (has here p) (has out p)) → (f : Found) → Finds _≤_ (In both) f → f ≡ Nothing → length l ≤ limit
+  pub stop-dead : (both : List ℕ) → ((p : ℕ) → p < 1024 → has both p ≡ min (has here p) (has out p)) → ((p : ℕ) → In both p → ⊥) → length l ≤ limit
       → (ds : List Stop) × StopAt n here out q ds × Wrote l at (linesOf (stopRow names) ds) l at
-  stop-dead both b f k e h = ([], StopAt.dead (none-as (both-agree b) (found-none _≤_ (In both) k e)), rw (lines-none (stopRow names)) (wrote-none h))
+  stop-dead both b none h = ([], StopAt.dead (none-as (both-agree b) none), rw (lines-none (stopRow names)) (wrote-none h))
 
-  module _ (only : List ℕ) (o : (p : ℕ) → p < 1024 → has only p ≡ has here p - has out p) (g : Found) (m : Finds _≤_ (In only) g) where
-    pub stop-leaving : g ≡ Nothing → length l ≤ limit → (ds : List Stop) × StopAt n here out q ds × Wrote l at (linesOf (stopRow names) ds) l at
-    stop-leaving e h = ([], StopAt.leaving (none-as (only-agree o) (found-none _≤_ (In only) m e)), rw (lines-none (stopRow names)) (wrote-none h))
+  module _ (only : List ℕ) (o : (p : ℕ) → p < 1024 → has only p ≡ has here p - has out p) where
+    pub stop-leaving : ((p : ℕ) → In only p → ⊥) → length l ≤ limit → (ds : List Stop) × StopAt n here out q ds × Wrote l at (linesOf (stopRow names) ds) l at
+    stop-leaving none h = ([], StopAt.leaving (none-as (only-agree o) none), rw (lines-none (stopRow names)) (wrote-none h))
 
-    pub stop-stays : (both : List ℕ) → ((p : ℕ) → p < 1024 → has both p ≡ min (has here p) (has out p)) → (f : Found) → Finds _≤_ (In both) f → {i j : ℕ} → f ≡ At i → g ≡ At j → n ≤ 10
+    pub stop-stays : (both : List ℕ) → ((p : ℕ) → p < 1024 → has both p ≡ min (has here p) (has out p)) → (p : ℕ) × In both p → (p : ℕ) × In only p → n ≤ 10
         → {l′ : List ℕ} {next : ℕ} → Wrote l at (lineOf (stopFields names q (guardOf 0 n (inSet only)))) l′ next
         → (ds : List Stop) × StopAt n here out q ds × Wrote l at (linesOf (stopRow names) ds) l′ next
-    stop-stays both b f k {i} {j} d e h w =
+    stop-stays both b (i, leaves) (j, stays) h w =
         let stop : Stop = record { line = 0; state = q; guard = guardOf 0 n (inSet only) } in (
           stop ∷ [],
-          StopAt.stays i (both-agree b .there i (found-at _≤_ (In both) k d .is)) j (only-agree o .there j (found-at _≤_ (In only) m e .is)) refl (guard-only here out only n h o),
+          StopAt.stays i (both-agree b .there i leaves) j (only-agree o .there j stays) refl (guard-only here out only n h o),
           rw (lines-one (stopRow names) stop) w,
         )

@@ -13,7 +13,6 @@ ghost use Rattle.sheet.specs.Sheet.{Stop};
 ghost use Rattle.sheet.specs.Spelling.{featureFields, validFields, startFields, moveFields, stopRow};
 ghost use Rattle.splitting.specs.Splitting.{inSet, guardOf};
 ghost use Rattle.cleaning.specs.Forms.{lineOf, linesOf, MadeGuard, StopAt};
-use products::Found;
 
 pub(crate) fn put_feature(room: &mut [u8], at: usize, text: &[u8], row: [usize; 2]) -> usize
     ensures { λ r. ⌜ Wrote (now (room .entry)) at (lineOf (featureFields (pieceOf (now (text .entry)) (getD row 0 0) (getD row 1 0)))) (now (room .exit)) r ⌝ }
@@ -89,10 +88,9 @@ fn put_made(
 ) -> usize
     ensures { λ r. ⌜ ((g : Guard) × MadeGuard (min features 10) here guard g × Wrote (now (room .entry)) at (print g (namesOf (now (text .entry)) (now (names .entry)) (min features 10)) List.[]) (now (room .exit)) r) ⌝ }
 {
-    let missed = members::least(products::without(here, guard));
-    let Found::At(_) = missed else {
+    if members::is_empty(products::without(here, guard)) {
         return text::put(room, at, b'1');
-    };
+    }
     splitting::put_guard(room, at, text, names, features, products::both(here, guard))
 }
 
@@ -114,15 +112,13 @@ pub(crate) fn put_stop(
     if leaves == 0 {
         return at;
     }
-    let leaving = members::least(products::both(here, out));
-    let Found::At(_) = leaving else {
+    if members::is_empty(products::both(here, out)) {
         return at;
-    };
+    }
     let stays = products::without(here, out);
-    let some = members::least(stays);
-    let Found::At(_) = some else {
+    if members::is_empty(stays) {
         return at;
-    };
+    }
     let a = text::put_bytes(room, at, b"stop\t");
     let b = text::put_number(room, a, q);
     let c = text::put(room, b, b'\t');

@@ -25,7 +25,7 @@ loop-again c =
     let test = put .before .before .before .before in
     let loop = test .before in
     let table = loop .before .before in
-    let out = out-of-blank _ _ _ (table .all-out .last .1 .1 .1 .0) refl (table .all-out .ensures) _ (test .loop-test .taken) in
+    let out = out-of-blank _ _ _ _ refl (table .all-out .ensures) _ (test .loop-test .taken) in
     let mark = loop .before .states-at .ensures _ (test .loop-test .taken) in
     (omega arith, stops-more (loop .loop .inv .1) _ out (put .put-stop .ensures (out-none _ _ _ _ _ mark out)))
 

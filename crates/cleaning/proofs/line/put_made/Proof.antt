@@ -9,13 +9,13 @@ returns : tie.Need-returns
 returns c =
     let one = c .before .before in
     let told = one .before .before in
-    made-full _ (omega arith) _ (told .before .before .before .without .ensures) (told .before .before .least .ensures) (told .enum-told2 .given .1) (one .put .ensures)
+    made-full _ (omega arith) _ (told .before .before .without .ensures) (told .before .is-empty .ensures .0 (told .if1 .taken)) (one .put .ensures)
 
 returns-2 : tie.Need-returns-2
 returns-2 c =
     let laid = c .before .before in
     let told = laid .before .before .before in
-    made-split _ (omega arith) _ (told .before .before .before .without .ensures) (told .before .before .least .ensures) (told .enum-told .given .1) _ (laid .before .both .ensures) (laid .put-guard .ensures)
+    made-split _ (omega arith) _ (told .before .before .without .ensures) (told .before .is-empty .ensures .1 (told .if1 .left)) _ (laid .before .both .ensures) (laid .put-guard .ensures)
 
 pub put-made-spec : {M : Type 1} → statement M
 put-made-spec =
@@ -23,8 +23,6 @@ put-made-spec =
     (tie.spec
     (λ c κs. search needs)
     (λ c κs. search needs)
-    (λ c. search needs)
-    (λ c. search needs)
     (λ c κs. search needs)
     (λ c. search needs)
     returns

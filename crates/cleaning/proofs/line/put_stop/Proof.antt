@@ -10,12 +10,10 @@ returns : tie.Need-returns
 returns c = λ none. stop-idle _ (none (c .if1 .taken)) (search needs)
 
 returns-2 : tie.Need-returns-2
-returns-2 c = λ none. stop-dead _ _ (c .before .before .before .both .ensures) _ (c .before .before .least .ensures) (c .enum-told2 .given .1) (search needs)
+returns-2 c = λ none. stop-dead _ _ (c .before .before .both .ensures) (c .before .is-empty .ensures .0 (c .if2 .taken)) (search needs)
 
 returns-3 : tie.Need-returns-3
-returns-3 c = λ none.
-    let some = c .before .before in
-    stop-leaving _ _ (some .before .without .ensures) _ (some .least2 .ensures) (c .enum-told4 .given .1) (search needs)
+returns-3 c = λ none. stop-leaving _ _ (c .before .before .without .ensures) (c .before .is-empty2 .ensures .0 (c .if3 .taken)) (search needs)
 
 returns-4 : tie.Need-returns-4
 returns-4 c = λ none.
@@ -25,8 +23,8 @@ returns-4 c = λ none.
     let state = tab .before .before .before .before in
     let word = state .before .before .before .before in
     let stays = word .before .before .before in
-    let leaves = stays .before .before .before .before in
-    stop-stays _ _ (stays .before .before .before .without .ensures) _ (stays .before .before .least2 .ensures) _ (leaves .before .before .before .both .ensures) _ (leaves .before .before .least .ensures) (leaves .enum-told .given .1) (stays .enum-told3 .given .1) (omega arith)
+    let leaves = stays .before .before .before in
+    stop-stays _ _ (stays .before .before .without .ensures) _ (leaves .before .before .both .ensures) (leaves .before .is-empty .ensures .1 (leaves .if2 .left)) (stays .before .is-empty2 .ensures .1 (stays .if3 .left)) (omega arith)
     (line-two stopWord (word .put-bytes .ensures) (state .put-number .ensures) (tab .put .ensures) (guard .put-guard .ensures) (end .put2 .ensures))
 
 pub put-stop-spec : {M : Type 1} → statement M
@@ -36,13 +34,9 @@ put-stop-spec =
     returns
     (λ c κs. search needs)
     (λ c κs. search needs)
-    (λ c. search needs)
-    (λ c. search needs)
     returns-2
     (λ c κs. search needs)
     (λ c κs. search needs)
-    (λ c. search needs)
-    (λ c. search needs)
     returns-3
     (λ c. search needs)
     (λ c κs. search needs)
