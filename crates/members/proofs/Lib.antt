@@ -1,2 +1,3 @@
 pub mod Passed
 pub mod Joined
+pub mod Determined

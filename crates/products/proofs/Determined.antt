@@ -21,9 +21,13 @@ found-determined P (At p) Nothing h h′ = absurd (h′ p (h .is))
 found-determined P Nothing (At q) h h′ = absurd (h q (h′ .is))
 found-determined P Nothing Nothing h h′ = refl
 
+-- an answer of two, where what the one says excludes what the other says
+pub told-determined : {A B : Type 0} → (A → B → ⊥) → (r r′ : Bool) → (r ≡ true → A) × (r ≡ false → B) → (r′ ≡ true → A) × (r′ ≡ false → B) → r ≡ r′
+told-determined x true true h h′ = refl
+told-determined x true false h h′ = absurd (x (h .0 refl) (h′ .1 refl))
+told-determined x false true h h′ = absurd (x (h′ .0 refl) (h .1 refl))
+told-determined x false false h h′ = refl
+
 -- of `same`
 pub same-determined : (a b : List ℕ) (r r′ : Bool) → (r ≡ true → a ≡ b) × (r ≡ false → a ≡ b → ⊥) → (r′ ≡ true → a ≡ b) × (r′ ≡ false → a ≡ b → ⊥) → r ≡ r′
-same-determined a b true true h h′ = refl
-same-determined a b true false h h′ = absurd (h′ .1 refl (h .0 refl))
-same-determined a b false true h h′ = absurd (h .1 refl (h′ .0 refl))
-same-determined a b false false h h′ = refl
+same-determined a b = told-determined (λ e ne. ne e)
