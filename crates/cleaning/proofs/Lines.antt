@@ -17,7 +17,6 @@ use Rattle.guards.specs.Guard.{Guard, always, print}
 use Rattle.sheet.specs.Sheet.{Stop}
 use Rattle.sheet.specs.Reading.{moveWord}
 use Rattle.sheet.specs.Spelling.{stopFields, stopRow}
-use Rattle.verdicts.specs.Judging.{InBoth, InOnly}
 use Rattle.verdicts.proofs.Agreeing.{none-as, both-agree, only-agree}
 use Rattle.splitting.specs.Splitting.{inSet, guardOf}
 use Rattle.splitting.proofs.Laws.{guard-ext}
