@@ -1,12 +1,12 @@
 -- The promise of `read_sheet` determines the answer and the tables: the text determines the sheet, the sheet determines each row of a table, and
 -- behind the rows of a sheet a table is blank. Assumes nothing.
-use mathlib.Core.Path.{_≡_, sym, ap, _∙_}
+use mathlib.Core.Path.{_≡_, sym, ap, subst, _∙_}
 use mathlib.Core.Logic.{⊎-elim}
 use mathlib.Core.List.{List, []}
 use Prim.Native.Nat.{ℕ, _-_, _<_}
 use native.Mathlib.Nat.{eq-zero-or-pos}
 use native.Mathlib.Omega.{arith}
-use lib.ListN.{getD}
+use lib.ListN.{length, getD}
 use lib.Seq.{ext-getD}
 use Rattle.products.specs.Sets.{oneIf, Words}
 use Rattle.products.proofs.Determined.{members-determine}
@@ -18,11 +18,18 @@ use Rattle.sheet.specs.Sheet.{Sheet, isValid}
 use Rattle.sheet.specs.Tables.{Tables, Rows, none, next, Table, StandsFor, ReadsSheet}
 use Rattle.sheet.proofs.Rows.{rows-length}
 
--- what every value of the tables' types is, besides the number of rows, which `Table` has: each set is sixteen words
+-- what every value of the tables' types is: each set is sixteen words
 pub record Typed (T : Tables) : Type 0 where
   pub valid : Words (T .valid)
-  pub moveGuards : (i : ℕ) → i < 256 → Words (getD (T .moveGuards) i [])
-  pub stopGuards : (i : ℕ) → i < 64 → Words (getD (T .stopGuards) i [])
+  pub moveGuards : (i : ℕ) → i < length (T .moveGuards) → Words (getD (T .moveGuards) i [])
+  pub stopGuards : (i : ℕ) → i < length (T .stopGuards) → Words (getD (T .stopGuards) i [])
+
+-- the tables that are lent are as long as each other
+pub record AsLong (T U : Tables) : Type 0 where
+  pub moves : length (T .moves) ≡ length (U .moves)
+  pub moveGuards : length (T .moveGuards) ≡ length (U .moveGuards)
+  pub stops : length (T .stops) ≡ length (U .stops)
+  pub stopGuards : length (T .stopGuards) ≡ length (U .stopGuards)
 
 -- ---- tables for one list
 
@@ -48,6 +55,11 @@ module _ {A : Type 0} where
         let e : k ≡ m = sym (rows-length (a .rows)) ∙ rows-length (b .rows) in
         (e, same-table one (rw e at a) b)
 
+  pub own-determined : {R : List ℕ → A → Type 0} {blank : List ℕ} {t u : List (List ℕ)} {xs : List A} {k m : ℕ} → length t ≡ length u
+      → ((i : ℕ) → i < length t → (x : A) → R (getD t i []) x → R (getD u i []) x → getD t i [] ≡ getD u i [])
+      → Table R blank (length t) t k xs → Table R blank (length u) u m xs → (k ≡ m) × (t ≡ u)
+  own-determined {R} {blank} {u = u} {xs} {m = m} e one a b = table-determined one a (subst (λ (n : ℕ). Table R blank n u m xs) (sym e) b)
+
 -- ---- the sets that one guard allows
 
 pub same-set : {a b : List ℕ} (g : Guard) → Words a → Words b → Means a g → Means b g → a ≡ b
@@ -63,21 +75,25 @@ same-tables : {T U : Tables} → T .names ≡ U .names → T .valid ≡ U .valid
     → T .stopGuards ≡ U .stopGuards → T ≡ U
 same-tables p q r t u v i = record { names = p i; valid = q i; moves = r i; moveGuards = t i; stops = u i; stopGuards = v i }
 
-pub tables-determined : {s : List ℕ} {T U : Tables} {c d : Counts} {r : Sheet} → Typed T → Typed U → StandsFor s T c r → StandsFor s U d r → (c ≡ d) × (T ≡ U)
-tables-determined {T = T} {U} {r = r} x y p q =
+pub tables-determined : {s : List ℕ} {T U : Tables} {c d : Counts} {r : Sheet} → Typed T → Typed U → AsLong T U → StandsFor s T c r → StandsFor s U d r → (c ≡ d) × (T ≡ U)
+tables-determined {T = T} {U} {r = r} x y l p q =
     let features = table-determined (λ i h f a b. a .is ∙ sym (b .is)) (p .filled .names) (q .filled .names) in
-    let moves = table-determined (λ i h m a b. a .is ∙ sym (b .is)) (p .filled .moves) (q .filled .moves) in
-    let guards = table-determined (λ i h m. same-set (m .guard) (x .moveGuards i h) (y .moveGuards i h)) (p .filled .moveGuards) (q .filled .moveGuards) in
-    let stops = table-determined (λ i h d a b. a ∙ sym b) (p .filled .stops) (q .filled .stops) in
-    let ends = table-determined (λ i h d. same-set (d .guard) (x .stopGuards i h) (y .stopGuards i h)) (p .filled .stopGuards) (q .filled .stopGuards) in
+    let moves = own-determined (l .moves) (λ i h m a b. a .is ∙ sym (b .is)) (p .filled .moves) (q .filled .moves) in
+    let guards = own-determined (l .moveGuards)
+    (λ i h m. same-set (m .guard) (x .moveGuards i h) (y .moveGuards i (subst (λ (n : ℕ). i < n) (l .moveGuards) h)))
+    (p .filled .moveGuards) (q .filled .moveGuards) in
+    let stops = own-determined (l .stops) (λ i h d a b. a ∙ sym b) (p .filled .stops) (q .filled .stops) in
+    let ends = own-determined (l .stopGuards)
+    (λ i h d. same-set (d .guard) (x .stopGuards i h) (y .stopGuards i (subst (λ (n : ℕ). i < n) (l .stopGuards) h)))
+    (p .filled .stopGuards) (q .filled .stopGuards) in
     let valid = members-determine (λ n. oneIf (isValid r n)) (T .valid) (U .valid) (x .valid) (y .valid) (p .valid) (q .valid) in
     (same-counts (features .0) (p .start ∙ sym (q .start)) (moves .0) (stops .0), same-tables (features .1) valid (moves .1) (guards .1) (stops .1) (ends .1))
 
-pub sheet-determined : (s : List ℕ) {T U : Tables} (a b : SheetRead) → ReadsSheet s T a → ReadsSheet s U b → Typed T → Typed U → (a ≡ b) × (T ≡ U)
-sheet-determined s (whole.Kept c) (whole.Kept d) p q x y =
+pub sheet-determined : (s : List ℕ) {T U : Tables} (a b : SheetRead) → ReadsSheet s T a → ReadsSheet s U b → Typed T → Typed U → AsLong T U → (a ≡ b) × (T ≡ U)
+sheet-determined s (whole.Kept c) (whole.Kept d) p q x y l =
     let e : p .0 ≡ q .0 = cc in
-    let z = tables-determined x y (p .2) (rw (sym e) at (q .2)) in
+    let z = tables-determined x y l (p .2) (rw (sym e) at (q .2)) in
     (ap whole.Kept (z .0), z .1)
-sheet-determined s (whole.Kept c) (whole.Refused e n) p q x y = let z : _≡_ {A = ℕ} 0 1 = cc in absurd (omega arith)
-sheet-determined s (whole.Refused e n) (whole.Kept d) p q x y = let z : _≡_ {A = ℕ} 0 1 = cc in absurd (omega arith)
-sheet-determined s (whole.Refused e n) (whole.Refused d m) p q x y = (cc, p .1 ∙ sym (q .1))
+sheet-determined s (whole.Kept c) (whole.Refused e n) p q x y l = let z : _≡_ {A = ℕ} 0 1 = cc in absurd (omega arith)
+sheet-determined s (whole.Refused e n) (whole.Kept d) p q x y l = let z : _≡_ {A = ℕ} 0 1 = cc in absurd (omega arith)
+sheet-determined s (whole.Refused e n) (whole.Refused d m) p q x y l = (cc, p .1 ∙ (rw (l .moves, l .moveGuards, l .stops, l .stopGuards)) ∙ sym (q .1))

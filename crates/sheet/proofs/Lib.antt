@@ -11,4 +11,5 @@ pub mod Looking
 pub mod Marks
 pub mod Spelled
 pub mod Moves
+pub mod Weights
 pub mod Whole

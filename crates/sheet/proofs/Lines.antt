@@ -63,7 +63,7 @@ module _ (l : List ℕ) (o : Bool) (h : IsOne l o) (n : ℕ) (st : State) {s : L
   fts-kept {y} so e k t =
       let f : sameBytes l editionWord ≡ true = sym k ∙ not-false y t in
       keeps (ap (ftsLine n st) (is-one l o h e) ∙ rw f)
-      (record { section = refl; validLine = so .validLine; start = so .start; valid = so .valid; apart = so .apart; filled = so .filled; marked = so .marked })
+      (record { section = refl; validLine = so .validLine; start = so .start; valid = so .valid; apart = so .apart; few = so .few; stopsFew = so .stopsFew; filled = so .filled; marked = so .marked })
 
   -- ---- `start`
 
@@ -83,7 +83,7 @@ module _ (l : List ℕ) (o : Bool) (h : IsOne l o) (n : ℕ) (st : State) {s : L
   start-kept {v = v} so e b k =
       let f : readState l ≡ Of v = sym k ∙ b in
       keeps {st = record { section = 3; validLine = st .validLine; sheet = withStart (st .sheet) v }} (ap (startLine n st) (is-one l o h e) ∙ rw f)
-      (record { section = refl; validLine = so .validLine; start = refl; valid = so .valid; apart = so .apart; filled = so .filled; marked = so .marked })
+      (record { section = refl; validLine = so .validLine; start = refl; valid = so .valid; apart = so .apart; few = so .few; stopsFew = so .stopsFew; filled = so .filled; marked = so .marked })
 
 -- ---- what the names' rows and a guard's answer say
 
@@ -170,6 +170,8 @@ feature-kept l o h n at st e so few k t q a lies =
       start = so .start;
       valid = so .valid;
       apart = so .apart;
+      few = so .few;
+      stopsFew = so .stopsFew;
       filled = record {
         names = table-put (so .filled .names) few (record { lies = lies; is = refl });
         moves = so .filled .moves;
@@ -207,6 +209,8 @@ module _ (l : List ℕ) (o : Bool) (h : IsOne l o) (n : ℕ) (st : State) {s : L
           start = so .start;
           valid = y .2;
           apart = so .apart;
+          few = so .few;
+          stopsFew = so .stopsFew;
           filled = filled-still (so .filled);
           marked = so .marked;
         })

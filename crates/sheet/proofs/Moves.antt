@@ -34,7 +34,7 @@ use Rattle.sheet.specs.Sheet.{Move, Stop, names}
 use Rattle.sheet.specs.Reading.{State, Answer, refuseIf, guarded, moved, stopped, keep, withMove, withStop, guardedMove, moveLine, stopLine}
 use Rattle.sheet.specs.Tables.{Tables, tables, Lies, Rows, plainOf, MoveRow, StopRow}
 use Rattle.sheet.specs.Inside.{Tells, Marked, TripledIn, Tripled, Stands, Says}
-use Rattle.sheet.proofs.Rows.{rows-length, table-put}
+use Rattle.sheet.proofs.Rows.{rows-length, own-put}
 use Rattle.sheet.proofs.Apart.{stops-fit}
 use Rattle.sheet.proofs.Lines.{refuses, keeps, guard-stands, guard-refused, guard-taken}
 
@@ -85,7 +85,7 @@ module _ (n : ℕ) (st : State) (from : ℕ) (action : List ℕ) (place to : ℕ
   move-refused a z = refuses z (guard-refused n (names (st .sheet .features)) x rd gs (guard-stands x rd gs so q) _ a)
 
   module _ {p : ℕ} (a : rd ≡ guard.Upto p) {y : Bool} {seen′ : List ℕ}
-      (has : (ms : List Move) → Rows (λ i k. MoveRow s (getD m i []) k) (min (c .moves) 256) ms → Marked seen ms → Tells seen′ from action to ms y) where
+      (has : (ms : List Move) → Rows (λ i k. MoveRow s (getD m i []) k) (min (c .moves) (length m)) ms → Marked seen ms → Tells seen′ from action to ms y) where
     after : Guard → Answer State
     after k =
         refuseIf (moved from action to (st .sheet .moves)) 9 n
@@ -94,7 +94,7 @@ module _ (n : ℕ) (st : State) (from : ℕ) (action : List ℕ) (place to : ℕ
     repeats : Tells seen′ from action to (st .sheet .moves) y
     repeats =
         let few = so .filled .moves .few in
-        let e : min (c .moves) 256 ≡ c .moves = omega arith in
+        let e : min (c .moves) (length m) ≡ c .moves = omega arith in
         has (st .sheet .moves) (rw e (so .filled .moves .rows)) (so .marked)
 
     pub move-repeat : {r : LineRead} → y ≡ true → r ≡ Refused 9 n → Says s (tables nm v m g t d) seen′ r (guardedMove n st from action place to x)
@@ -103,12 +103,12 @@ module _ (n : ℕ) (st : State) (from : ℕ) (action : List ℕ) (place to : ℕ
         let w = guard-taken n (names (st .sheet .features)) x rd gs (guard-stands x rd gs so q) after a in
         refuses z (w .3 ∙ rw (sym (repeats .is) ∙ e))
 
-    pub move-kept : {u : ℕ} → y ≡ false → c .moves < 256 → Lies s action place → u ≡ oneIf (sameBytes x (49 ∷ []))
+    pub move-kept : {u : ℕ} → y ≡ false → c .moves < 256 → c .moves < length m → c .moves < length g → Lies s action place → u ≡ oneIf (sameBytes x (49 ∷ []))
         → Says s (tables nm v (set m (c .moves) (n ∷ from ∷ place ∷ (place + length action) ∷ to ∷ u ∷ [])) (set g (c .moves) gs) t d) seen′
         (Kept (record { section = 3; valid = c .valid; features = c .features; start = c .start; moves = c .moves + 1; stops = c .stops }))
         (guardedMove n st from action place to x)
     unfolding guardedMove after
-    move-kept {u} e few lies f =
+    move-kept {u} e few mine yours lies f =
         let w = guard-taken n (names (st .sheet .features)) x rd gs (guard-stands x rd gs so q) after a in
         let k : u ≡ plainOf (w .0) = f ∙ plain-is (names (st .sheet .features)) x (w .1) in
         keeps (w .3 ∙ rw (sym (repeats .is) ∙ e))
@@ -118,10 +118,12 @@ module _ (n : ℕ) (st : State) (from : ℕ) (action : List ℕ) (place to : ℕ
           start = so .start;
           valid = so .valid;
           apart = so .apart;
+          few = omega arith;
+          stopsFew = so .stopsFew;
           filled = record {
             names = so .filled .names;
-            moves = table-put (so .filled .moves) few (record { lies = lies; is = ap (λ (z : ℕ). n ∷ from ∷ place ∷ (place + length action) ∷ to ∷ z ∷ []) k });
-            moveGuards = table-put (so .filled .moveGuards) few (w .2);
+            moves = own-put (so .filled .moves) mine (record { lies = lies; is = ap (λ (z : ℕ). n ∷ from ∷ place ∷ (place + length action) ∷ to ∷ z ∷ []) k });
+            moveGuards = own-put (so .filled .moveGuards) yours (w .2);
             stops = so .filled .stops;
             stopGuards = so .filled .stopGuards;
           };
@@ -246,11 +248,11 @@ module _ (l : List ℕ) (n : ℕ) (st : State) where
       stop-refused a z = refuses z (begins ∙ guard-refused n (names (st .sheet .features)) x rd gs told then a)
 
       module _ {p : ℕ} (a : rd ≡ guard.Upto p) {y : Bool}
-          (has : (ds : List Stop) → Rows (λ i z. StopRow (getD t i []) z) (min (c .stops) 64) ds → y ≡ stopped w ds) where
+          (has : (ds : List Stop) → Rows (λ i z. StopRow (getD t i []) z) (min (c .stops) (length t)) ds → y ≡ stopped w ds) where
         comes : y ≡ stopped w (st .sheet .stops)
         comes =
             let few = so .filled .stops .few in
-            let z : min (c .stops) 64 ≡ c .stops = omega arith in
+            let z : min (c .stops) (length t) ≡ c .stops = omega arith in
             has (st .sheet .stops) (rw z (so .filled .stops .rows))
 
         pub stop-repeat : {r : LineRead} → y ≡ true → r ≡ Refused 9 n → Says s (tables nm v m g t d) seen r (stopLine n st (asTwo (fields l)))
@@ -270,12 +272,12 @@ module _ (l : List ℕ) (n : ℕ) (st : State) where
         pub stop-never : {r : LineRead} → y ≡ false → 64 ≤ c .stops → Says s (tables nm v m g t d) seen r (stopLine n st (asTwo (fields l)))
         stop-never i z = let j = fits i in absurd (omega arith)
 
-        pub stop-kept : {u : Progress} → y ≡ false
+        pub stop-kept : {u : Progress} → y ≡ false → c .stops < length t → c .stops < length d
             → u ≡ record { section = 4; valid = c .valid; features = c .features; start = c .start; moves = c .moves; stops = c .stops + 1 }
             → Says s (tables nm v m g (set t (c .stops) (n ∷ w ∷ [])) (set d (c .stops) gs)) seen
             (Kept u) (stopLine n st (asTwo (fields l)))
         unfolding then
-        stop-kept i f =
+        stop-kept i mine yours f =
             let z = guard-taken n (names (st .sheet .features)) x rd gs told then a in
             let small = state-small (part l 0 b) stopping in
             rw f
@@ -286,12 +288,14 @@ module _ (l : List ℕ) (n : ℕ) (st : State) where
               start = so .start;
               valid = so .valid;
               apart = (omega arith, sym comes ∙ i, so .apart);
+              few = so .few;
+              stopsFew = let j = fits i in omega arith;
               filled = record {
                 names = so .filled .names;
                 moves = so .filled .moves;
                 moveGuards = so .filled .moveGuards;
-                stops = table-put (so .filled .stops) (fits i) refl;
-                stopGuards = table-put (so .filled .stopGuards) (fits i) (z .2);
+                stops = own-put (so .filled .stops) mine refl;
+                stopGuards = own-put (so .filled .stopGuards) yours (z .2);
               };
               marked = so .marked;
             }))

@@ -1,15 +1,15 @@
 -- Rows and tables, whatever they hold: one row more, one row less, the row of an element. The relation of a row is a variable throughout, so that
 -- each law serves every table. Assumes nothing.
-use mathlib.Core.Path.{_≡_, refl, sym, ap, ap₂, _∙_}
+use mathlib.Core.Path.{_≡_, refl, sym, ap, ap₂, subst, _∙_}
 use mathlib.Core.Logic.{⊎-elim}
 use mathlib.Core.List.{List, [], _∷_, _++_, List·Memᴰ, List·Memᴰ·head, List·Memᴰ·tail, Memᴰ·append-right}
-use Prim.Native.Nat.{ℕ, suc, _+_, _-_, _<_}
+use Prim.Native.Nat.{ℕ, suc, _+_, _-_, _≤_, _<_}
 use native.Mathlib.Nat.{eq-or-lt-of-le}
 use native.Mathlib.Numerals.{add-one}
 use native.Mathlib.Omega.{arith}
 use borrow.Author.Tests.{le-leb}
 use lib.ListN.{length, getD, set, replicate, length-set, length-replicate, getD-replicate}
-use lib.Seq.{getD-set-same, getD-set-other}
+use lib.Seq.{getD-set-same, getD-set-other, ext-getD}
 use Rattle.fields.specs.Bytes.{pieceOf}
 use Rattle.guards.specs.Reading.{namesOf}
 use Rattle.sheet.specs.Sheet.{Feature, names}
@@ -69,6 +69,41 @@ module _ {A : Type 0} {R : List ℕ → A → Type 0} {blank : List ℕ} {most :
             (rows-keep (λ i y l q. rw (getD-set-other t k i row [] (omega arith)) q) (h .rows)));
         rest = λ i l m. rw (getD-set-other t k i row [] (omega arith)) (h .rest i (omega arith) m);
       }
+
+-- the same where the number of rows is the table's own length
+module _ {A : Type 0} {R : List ℕ → A → Type 0} {blank : List ℕ} where
+  pub own-blank : (n : ℕ) → Table R blank (length (replicate n blank)) (replicate n blank) 0 []
+  own-blank n = subst (λ (k : ℕ). Table R blank k (replicate n blank) 0 []) (sym (length-replicate n blank)) table-blank
+
+  pub own-put : {t : List (List ℕ)} {k : ℕ} {xs : List A} {row : List ℕ} {x : A} → Table R blank (length t) t k xs → k < length t → R row x
+      → Table R blank (length (set t k row)) (set t k row) (k + 1) (x ∷ xs)
+  own-put {t} {k} {xs} {row} {x} h lt r =
+      subst (λ (n : ℕ). Table R blank n (set t k row) (k + 1) (x ∷ xs)) (sym (length-set t k row)) (table-put h lt r)
+
+-- the first i rows have been made blank
+pub record Cleared (blank : List ℕ) (t u : List (List ℕ)) (i : ℕ) : Type 0 where
+  pub long : length u ≡ length t
+  pub is : (k : ℕ) → k < i → getD u k [] ≡ blank
+
+module _ {blank : List ℕ} where
+  pub cleared-none : (t : List (List ℕ)) → Cleared blank t t 0
+  cleared-none t = record { long = refl; is = λ k h. absurd (omega arith) }
+
+  module _ {t u : List (List ℕ)} {i : ℕ} (h : Cleared blank t u i) where
+    pub cleared-more : i < length u → Cleared blank t (set u i blank) (i + 1)
+    cleared-more l =
+        record {
+          long = length-set u i blank ∙ h .long;
+          is = λ k m.
+              ⊎-elim (λ (e : k ≡ i). rw e (getD-set-same u i blank [] l))
+              (λ (f : k < i). getD-set-other u i k blank [] (omega arith) ∙ h .is k f)
+              (eq-or-lt-of-le (omega arith));
+        }
+
+    pub cleared-all : length u ≤ i → u ≡ replicate (length u) blank
+    cleared-all l =
+        let e : length (replicate (length u) blank) ≡ length u = length-replicate (length u) blank in
+        ext-getD [] u (replicate (length u) blank) (sym e) (λ k m. h .is k (omega arith) ∙ sym (getD-replicate (length u) k blank [] m))
 
 -- ---- what lies in the sheet, by its place and the place behind it
 

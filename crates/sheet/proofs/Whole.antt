@@ -3,11 +3,11 @@
 use mathlib.Core.Path.{_≡_, refl, sym, ap, subst, _∙_}
 use mathlib.Core.Bool.{Bool, true, false, _&&_}
 use mathlib.Core.List.{List, [], _∷_}
-use Prim.Native.Nat.{ℕ, suc, _+_, _-_, _^_, _≤_, _<_, min}
+use Prim.Native.Nat.{ℕ, suc, _+_, _-_, _*_, _^_, _≤_, _<_, min}
 use native.Mathlib.Omega.{arith}
 use borrow.Author.Tests.{eq-eqb, ne-eqb, lt-ltb, le-ltb}
 use lib.Dec.{ltb}
-use lib.ListN.{length, getD, drop, replicate}
+use lib.ListN.{length, getD, drop, replicate, length-replicate}
 use lib.Pow.{pow-mono}
 use Rattle.products.specs.declared.Found.{Found}
 use Rattle.products.specs.declared.Found.the-variants.{At, Nothing}
@@ -30,11 +30,13 @@ use Rattle.sheet.specs.Sheet.{Sheet, isValid}
 use Rattle.sheet.specs.Reading.{State, Answer, refused, goOn, kindIn, byKind, byWord, ftsLine, featureLine, validLine, startLine, moveLine, stopLine, readLine, ended, readLines, nothing, last, readSheet}
 use Rattle.sheet.specs.Tables.{Tables, tables, blankTables, Lies, ReadsSheet}
 use Rattle.sheet.specs.Inside.{Stands, Says, SaysIn, Ends, EndsIn}
-use Rattle.sheet.proofs.Rows.{table-blank}
+use Rattle.sheet.proofs.Rows.{rows-length, table-blank, own-blank}
+use Rattle.sheet.proofs.LineKinds.{by-kind}
 use Rattle.sheet.proofs.Marks.{marked-none}
 use Rattle.sheet.proofs.ValidProducts.{none-true, valid-found}
 use Rattle.sheet.proofs.Lines.{features-counted, filled-still}
 use Rattle.sheet.proofs.Moves.{lies-part}
+use Rattle.sheet.proofs.Weights.{line-weighs}
 
 -- ---- a line by its word
 
@@ -84,6 +86,30 @@ pub rest-lies : (s : List ℕ) (at e : ℕ) → at ≤ e → e ≤ length s → 
 rest-lies s at e h k w m =
     let z : at + (w + 1) ≡ at + w + 1 = omega arith in
     subst (Lies s (part (part s at e) (w + 1) (length (part s at e)))) z (lies-part (w + 1) (length (part s at e)) (line-lies s at e h k) (omega arith) (omega arith))
+
+-- how many bytes the word of a line has at least: those of moves and stops have four
+abbrev pub wordy : LineKind → ℕ
+wordy Fts = 0
+wordy Feature = 0
+wordy Valid = 0
+wordy Start = 0
+wordy Move = 4
+wordy Stop = 4
+wordy Misplaced = 0
+
+word-long : (n : ℕ) (w : List ℕ) → wordy (kindIn n w) ≤ length w
+word-long n w =
+    by-kind n w (λ k. wordy k ≤ length w) (λ a b. omega arith) (λ a b. omega arith) (λ a b. omega arith) (λ a b. omega arith)
+    (λ a b. omega (arith, ap length b)) (λ a b. omega (arith, ap length b)) (omega arith)
+
+-- what stands behind the word and its tab is so much shorter than the sheet
+pub word-room : (s : List ℕ) (at e : ℕ) → at ≤ e → e ≤ length s → (w : ℕ) → w < length (part s at e) → (n : ℕ) {k m : LineKind}
+    → k ≡ kindIn n (part (part s at e) 0 w) → k ≡ m → at + wordy m + 1 + length (part (part s at e) (w + 1) (length (part s at e))) ≤ length s
+word-room s at e h i w l n {m = m} d f =
+    let z = rest-lies s at e h i w l .within in
+    let y = part-length (part s at e) 0 w (omega arith) in
+    let x : wordy m ≤ length (part (part s at e) 0 w) = rw (sym f ∙ d) (word-long n (part (part s at e) 0 w)) in
+    omega arith
 
 -- ---- the end of the sheet
 
@@ -140,7 +166,7 @@ module _ {s : List ℕ} {nm : List (List ℕ)} {v : List ℕ} {m g t d : List (L
             is = (
               st .sheet,
               rw (come, valid-found (st .sheet) q i),
-              record { start = so .start; valid = allowed; filled = filled-still (so .filled) },
+              record { start = so .start; valid = allowed; few = so .few; stopsFew = so .stopsFew; filled = filled-still (so .filled) },
             );
           }
 
@@ -158,11 +184,16 @@ pub record Going (s : List ℕ) (T : Tables) (seen : List ℕ) (c : Progress) (n
   pub ends : getD s (length s - 1) 0 ≡ 10
   pub within : at ≤ length s
   pub few : n ≤ at + 1
+  pub light : c .moves * 8 + c .stops * 6 ≤ at
 
-pub going-start : {s : List ℕ} {T : Tables} → T ≡ blankTables → getD s (length s - 1) 0 ≡ 10
+-- no row of any table, whatever the lengths
+abbrev pub Blank : Tables → Type 0
+Blank T = T ≡ blankTables (length (T .moves)) (length (T .moveGuards)) (length (T .stops)) (length (T .stopGuards))
+
+going-from : {s : List ℕ} {T : Tables} (m g t h : ℕ) → T ≡ blankTables m g t h → getD s (length s - 1) 0 ≡ 10
     → Going s T (replicate 2048 0) (record { section = 0; valid = 0; features = 0; start = 0; moves = 0; stops = 0 }) 1 0
 unfolding Means holds
-going-start b e =
+going-from m g t h b e =
     rw b
     (record {
       state = nothing;
@@ -172,14 +203,21 @@ going-start b e =
         start = refl;
         valid = λ p k. empty-has p;
         apart = tt;
-        filled = record { names = table-blank; moves = table-blank; moveGuards = table-blank; stops = table-blank; stopGuards = table-blank };
+        few = omega arith;
+        stopsFew = omega arith;
+        filled = record { names = table-blank; moves = own-blank m; moveGuards = own-blank g; stops = own-blank t; stopGuards = own-blank h };
         marked = marked-none;
       };
       left = refl;
       ends = e;
       within = omega arith;
       few = omega arith;
+      light = omega arith;
     })
+
+pub going-start : {s : List ℕ} {T : Tables} → Blank T → getD s (length s - 1) 0 ≡ 10
+    → Going s T (replicate 2048 0) (record { section = 0; valid = 0; features = 0; start = 0; moves = 0; stops = 0 }) 1 0
+going-start {T = T} b e = going-from (length (T .moves)) (length (T .moveGuards)) (length (T .stops)) (length (T .stopGuards)) b e
 
 module _ {s : List ℕ} {T : Tables} {seen : List ℕ} {c : Progress} {n at : ℕ} (go : Going s T seen c n at) where
   module _ (l : at < length s) {e : ℕ} (h : FirstAt s 10 at e) where
@@ -206,7 +244,14 @@ module _ {s : List ℕ} {T : Tables} {seen : List ℕ} {c : Progress} {n at : �
           let y = said q in
           let z = line-ends in
           let few = go .few in
-          record { state = y .0; stands = y .2; left = turn ∙ rw (y .1); ends = go .ends; within = omega arith; few = omega arith }
+          let light = go .light in
+          let long = part-length s at e (omega arith) in
+          let more = line-weighs n at (go .state) (part s at e) (y .1) in
+          let a = rows-length (go .stands .filled .moves .rows) in
+          let b = rows-length (go .stands .filled .stops .rows) in
+          let c = rows-length (y .2 .filled .moves .rows) in
+          let d = rows-length (y .2 .filled .stops .rows) in
+          record { state = y .0; stands = y .2; left = turn ∙ rw (y .1); ends = go .ends; within = omega arith; few = omega arith; light = omega arith }
 
   pub going-done : {T′ : Tables} {r : SheetRead} → length s ≤ at → ((st : State) → Stands s T seen c st → Ends s T′ r (ended n st)) → Ends s T′ r (fromTop s)
   unfolding readLines
@@ -230,18 +275,39 @@ last-none (b ∷ s) h = absurd (omega arith)
 ends-as : {s : List ℕ} {T : Tables} {a b : SheetRead} {x : Answer Sheet} → a ≡ b → Ends s T a x → EndsIn s T b x
 ends-as e h = rw e at (h .is)
 
+pub blank-own : {T : Tables} (m g t h : ℕ) → T ≡ blankTables m g t h → Blank T
+blank-own m g t h e =
+    subst Blank (sym e)
+    (rw (length-replicate m (replicate {A = ℕ} 6 0), length-replicate g (replicate {A = ℕ} 16 0), length-replicate t (replicate {A = ℕ} 2 0), length-replicate h (replicate {A = ℕ} 16 0)))
+
+pub blank-lengths : {T : Tables} (m g t h : ℕ) → T ≡ blankTables m g t h
+    → (length (T .moves) ≡ m) × (length (T .moveGuards) ≡ g) × (length (T .stops) ≡ t) × (length (T .stopGuards) ≡ h)
+blank-lengths m g t h e = (
+  ap (λ (T : Tables). length (T .moves)) e ∙ length-replicate m (replicate {A = ℕ} 6 0),
+  ap (λ (T : Tables). length (T .moveGuards)) e ∙ length-replicate g (replicate {A = ℕ} 16 0),
+  ap (λ (T : Tables). length (T .stops)) e ∙ length-replicate t (replicate {A = ℕ} 2 0),
+  ap (λ (T : Tables). length (T .stopGuards)) e ∙ length-replicate h (replicate {A = ℕ} 16 0),
+)
+
+same-lent : {n : List (List ℕ)} {v : List ℕ} {a b c d m g t h : List (List ℕ)} → m ≡ a → g ≡ b → t ≡ c → h ≡ d → tables n v m g t h ≡ tables n v a b c d
+same-lent {n} {v} p q r u i = record { names = n; valid = v; moves = p i; moveGuards = q i; stops = r i; stopGuards = u i }
+
+pub all-blank : {m g t h : List (List ℕ)} → m ≡ replicate (length m) (replicate 6 0) → g ≡ replicate (length g) (replicate 16 0)
+    → t ≡ replicate (length t) (replicate 2 0) → h ≡ replicate (length h) (replicate 16 0) → Blank (tables (replicate 10 (replicate 2 0)) (replicate 16 0) m g t h)
+all-blank p q r u = same-lent p q r u
+
 module _ (s : List ℕ) where
-  pub sheet-long : {T : Tables} {r : SheetRead} → T ≡ blankTables → 65536 < length s → r ≡ whole.Refused 1 0 → ReadsSheet s T r
+  pub sheet-long : {T : Tables} {r : SheetRead} → Blank T → 65536 < length s → r ≡ whole.Refused 1 0 → ReadsSheet s T r
   unfolding readSheet
   sheet-long b h z = rw z (rw (lt-ltb 65536 (length s) h), b)
 
   module _ (l : length s ≤ 65536) where
-    pub sheet-empty : {T : Tables} {r : SheetRead} → T ≡ blankTables → length s ≡ 0 → r ≡ whole.Refused 2 0 → ReadsSheet s T r
+    pub sheet-empty : {T : Tables} {r : SheetRead} → Blank T → length s ≡ 0 → r ≡ whole.Refused 2 0 → ReadsSheet s T r
     unfolding readSheet
     sheet-empty b h z = rw z (rw (le-ltb 65536 (length s) l, last-none s h), b)
 
     module _ (h : length s ≡ 0 → ⊥) where
-      pub sheet-open : {T : Tables} {r : SheetRead} → T ≡ blankTables → (getD s (length s - 1) 0 ≡ 10 → ⊥) → r ≡ whole.Refused 2 0 → ReadsSheet s T r
+      pub sheet-open : {T : Tables} {r : SheetRead} → Blank T → (getD s (length s - 1) 0 ≡ 10 → ⊥) → r ≡ whole.Refused 2 0 → ReadsSheet s T r
       unfolding readSheet
       sheet-open b e z = rw z (rw (le-ltb 65536 (length s) l, last-at 0 s (omega arith), ne-eqb (getD s (length s - 1) 0) 10 e), b)
 
@@ -250,7 +316,7 @@ module _ (s : List ℕ) where
         unfolding readSheet
         begins = rw (le-ltb 65536 (length s) l, last-at 0 s (omega arith), eq-eqb (getD s (length s - 1) 0) 10 e)
 
-        pub sheet-refused : {T U : Tables} {r : SheetRead} {i k : ℕ} → Ends s U r (fromTop s) → r ≡ whole.Refused i k → T ≡ blankTables → ReadsSheet s T r
+        pub sheet-refused : {T U : Tables} {r : SheetRead} {i k : ℕ} → Ends s U r (fromTop s) → r ≡ whole.Refused i k → Blank T → ReadsSheet s T r
         sheet-refused f z b = rw z (begins ∙ ends-as z f, b)
 
         pub sheet-kept : {T : Tables} {r : SheetRead} {c : Counts} → Ends s T r (fromTop s) → r ≡ whole.Kept c → ReadsSheet s T r

@@ -3,7 +3,7 @@
 use mathlib.Core.Bool.{Bool, false, not}
 use mathlib.Core.List.{List, [], _∷_}
 use mathlib.Core.Path.{_≡_}
-use Prim.Native.Nat.{ℕ, _+_, _*_, _%_, _<_}
+use Prim.Native.Nat.{ℕ, _+_, _*_, _%_, _≤_, _<_}
 use lib.ListN.{length, getD}
 use Rattle.fields.specs.Bytes.{isAction, readState}
 use Rattle.guards.specs.Guard.{Means}
@@ -51,6 +51,8 @@ pub record Stands (s : List ℕ) (T : Tables) (seen : List ℕ) (c : Progress) (
   pub start : c .start ≡ st .sheet .start
   pub valid : Means (T .valid) (st .sheet .valid)
   pub apart : Apart (st .sheet .stops)
+  pub few : c .moves ≤ 256
+  pub stopsFew : c .stops ≤ 64
   pub filled : Filled s T (c .features) (c .moves) (c .stops) (st .sheet .features) (st .sheet .moves) (st .sheet .stops)
   pub marked : Marked seen (st .sheet .moves)
 

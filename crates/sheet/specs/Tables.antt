@@ -67,10 +67,10 @@ StopRow row d = row ≡ d .line ∷ d .state ∷ []
 -- the tables' first f, k and d rows are for these features, moves and stops; the guards' sets have exactly the products in which the guards hold
 pub record Filled (s : List ℕ) (T : Tables) (f k d : ℕ) (fs : List Feature) (ms : List Move) (ds : List Stop) : Type 0 where
   pub names : Table (FeatureRow s) (replicate 2 0) 10 (T .names) f fs
-  pub moves : Table (MoveRow s) (replicate 6 0) 256 (T .moves) k ms
-  pub moveGuards : Table (λ set m. Means set (m .guard)) (replicate 16 0) 256 (T .moveGuards) k ms
-  pub stops : Table StopRow (replicate 2 0) 64 (T .stops) d ds
-  pub stopGuards : Table (λ set d. Means set (d .guard)) (replicate 16 0) 64 (T .stopGuards) d ds
+  pub moves : Table (MoveRow s) (replicate 6 0) (length (T .moves)) (T .moves) k ms
+  pub moveGuards : Table (λ set m. Means set (m .guard)) (replicate 16 0) (length (T .moveGuards)) (T .moveGuards) k ms
+  pub stops : Table StopRow (replicate 2 0) (length (T .stops)) (T .stops) d ds
+  pub stopGuards : Table (λ set d. Means set (d .guard)) (replicate 16 0) (length (T .stopGuards)) (T .stopGuards) d ds
 
 -- ---- what the outermost reader promises
 
@@ -78,15 +78,17 @@ pub record Filled (s : List ℕ) (T : Tables) (f k d : ℕ) (fs : List Feature) 
 pub record StandsFor (s : List ℕ) (T : Tables) (c : Counts) (r : Sheet) : Type 0 where
   pub start : c .start ≡ r .start
   pub valid : (p : ℕ) → p < 1024 → has (T .valid) p ≡ oneIf (isValid r p)
+  pub few : c .moves ≤ 256
+  pub stopsFew : c .stops ≤ 64
   pub filled : Filled s T (c .features) (c .moves) (c .stops) (r .features) (r .moves) (r .stops)
 
--- no row of any table
-abbrev pub blankTables : Tables
-blankTables =
-    tables (replicate 10 (replicate 2 0)) (replicate 16 0) (replicate 256 (replicate 6 0)) (replicate 256 (replicate 16 0)) (replicate 64 (replicate 2 0))
-    (replicate 64 (replicate 16 0))
+-- no row of any table; all but the names have these lengths
+abbrev pub blankTables : ℕ → ℕ → ℕ → ℕ → Tables
+blankTables m g t h =
+    tables (replicate 10 (replicate 2 0)) (replicate 16 0) (replicate m (replicate 6 0)) (replicate g (replicate 16 0)) (replicate t (replicate 2 0))
+    (replicate h (replicate 16 0))
 
 -- refused as the definition refuses, and the tables blank; or kept, and the tables stand for the definition's sheet
 abbrev pub ReadsSheet : List ℕ → Tables → SheetRead → Type 0
 ReadsSheet s T (whole.Kept c) = (r : Sheet) × (readSheet s ≡ kept r) × StandsFor s T c r
-ReadsSheet s T (whole.Refused e n) = (readSheet s ≡ refused e n) × (T ≡ blankTables)
+ReadsSheet s T (whole.Refused e n) = (readSheet s ≡ refused e n) × (T ≡ blankTables (length (T .moves)) (length (T .moveGuards)) (length (T .stops)) (length (T .stopGuards)))

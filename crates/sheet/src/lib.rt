@@ -5,8 +5,8 @@ mod row;
 
 ghost use mathlib.Core.Path.{_≡_};
 ghost use mathlib.Core.List.{List};
-ghost use Prim.Native.Nat.{ℕ, _+_, _-_, _≤_, _<_};
-ghost use lib.ListN.{length, getD};
+ghost use Prim.Native.Nat.{ℕ, _+_, _-_, _*_, _≤_, _<_, min};
+ghost use lib.ListN.{length, getD, replicate};
 ghost use Rattle.fields.specs.Cutting.{lines};
 ghost use Rattle.sheet.specs.Reading.{State, ended, readLines, nothing};
 ghost use Rattle.sheet.specs.Tables.{tables, blankTables, ReadsSheet};
@@ -91,17 +91,19 @@ pub fn read_sheet(
     read_blank(text, names, valid, moves, move_guards, stops, stop_guards)
 }
 
-// The same for tables that are blank already.
+// The same for tables that are blank already, and that have rows enough for the text: a move line has
+// at least 8 bytes and a stop line at least 6, and a sheet has at most 256 and 64 of them.
 pub fn read_blank(
     text: &[u8],
     names: &mut [[usize; 2]; 10],
     valid: &mut [u64; 16],
-    moves: &mut [[usize; 6]; 256],
-    move_guards: &mut [[u64; 16]; 256],
-    stops: &mut [[usize; 2]; 64],
-    stop_guards: &mut [[u64; 16]; 64],
+    moves: &mut [[usize; 6]],
+    move_guards: &mut [[u64; 16]],
+    stops: &mut [[usize; 2]],
+    stop_guards: &mut [[u64; 16]],
 ) -> SheetRead
-    requires { ⌜ tables (now names) (now valid) (now moves) (now «move_guards») (now stops) (now «stop_guards») ≡ blankTables ⌝ }
+    requires { ⌜ tables (now names) (now valid) (now moves) (now «move_guards») (now stops) (now «stop_guards») ≡ blankTables (length (now moves)) (length (now «move_guards»)) (length (now stops)) (length (now «stop_guards»)) ⌝ }
+    requires { ⌜ (min (length (now text)) 2048 ≤ 8 * length (now moves)) × (min (length (now text)) 2048 ≤ 8 * length (now «move_guards»)) × (min (length (now text)) 384 ≤ 6 * length (now stops)) × (min (length (now text)) 384 ≤ 6 * length (now «stop_guards»)) ⌝ }
     ensures { λ r. ⌜ ReadsSheet (now (text .entry)) (tables (now (names .exit)) (now (valid .exit)) (now (moves .exit)) (now («move_guards» .exit)) (now (stops .exit)) (now («stop_guards» .exit))) r ⌝ }
 {
     if MOST_BYTES < text.len() {
@@ -115,7 +117,7 @@ pub fn read_blank(
     }
     let r = read_lines(text, names, valid, moves, move_guards, stops, stop_guards);
     let SheetRead::Kept(_) = r else {
-        clear(names, valid, moves, move_guards, stops, stop_guards);
+        clear_lent(names, valid, moves, move_guards, stops, stop_guards);
         return r;
     };
     r
@@ -130,7 +132,7 @@ fn clear(
     stops: &mut [[usize; 2]; 64],
     stop_guards: &mut [[u64; 16]; 64],
 )
-    ensures { λ r. ⌜ tables (now (names .exit)) (now (valid .exit)) (now (moves .exit)) (now («move_guards» .exit)) (now (stops .exit)) (now («stop_guards» .exit)) ≡ blankTables ⌝ }
+    ensures { λ r. ⌜ tables (now (names .exit)) (now (valid .exit)) (now (moves .exit)) (now («move_guards» .exit)) (now (stops .exit)) (now («stop_guards» .exit)) ≡ blankTables 256 256 64 64 ⌝ }
 {
     *names = [[0usize; 2]; 10];
     *valid = [0u64; 16];
@@ -138,6 +140,56 @@ fn clear(
     *move_guards = [[0u64; 16]; 256];
     *stops = [[0usize; 2]; 64];
     *stop_guards = [[0u64; 16]; 64];
+}
+
+// The same for tables of any length.
+fn clear_lent(
+    names: &mut [[usize; 2]; 10],
+    valid: &mut [u64; 16],
+    moves: &mut [[usize; 6]],
+    move_guards: &mut [[u64; 16]],
+    stops: &mut [[usize; 2]],
+    stop_guards: &mut [[u64; 16]],
+)
+    ensures { λ r. ⌜ tables (now (names .exit)) (now (valid .exit)) (now (moves .exit)) (now («move_guards» .exit)) (now (stops .exit)) (now («stop_guards» .exit)) ≡ blankTables (length (now (moves .exit))) (length (now («move_guards» .exit))) (length (now (stops .exit))) (length (now («stop_guards» .exit))) ⌝ }
+{
+    *names = [[0usize; 2]; 10];
+    *valid = [0u64; 16];
+    clear_moves(moves);
+    clear_guards(move_guards);
+    clear_stops(stops);
+    clear_guards(stop_guards);
+}
+
+// Makes every row blank; one function for each kind of row.
+fn clear_moves(rows: &mut [[usize; 6]])
+    ensures { λ r. ⌜ now (rows .exit) ≡ replicate (length (now (rows .exit))) (replicate 6 0) ⌝ }
+{
+    let mut i = 0;
+    while i < rows.len() {
+        rows[i] = [0usize; 6];
+        i += 1;
+    }
+}
+
+fn clear_stops(rows: &mut [[usize; 2]])
+    ensures { λ r. ⌜ now (rows .exit) ≡ replicate (length (now (rows .exit))) (replicate 2 0) ⌝ }
+{
+    let mut i = 0;
+    while i < rows.len() {
+        rows[i] = [0usize; 2];
+        i += 1;
+    }
+}
+
+fn clear_guards(rows: &mut [[u64; 16]])
+    ensures { λ r. ⌜ now (rows .exit) ≡ replicate (length (now (rows .exit))) (replicate 16 0) ⌝ }
+{
+    let mut i = 0;
+    while i < rows.len() {
+        rows[i] = [0u64; 16];
+        i += 1;
+    }
 }
 
 fn refuse_sheet(number: u8, line: usize) -> SheetRead
@@ -152,12 +204,13 @@ fn read_lines(
     text: &[u8],
     names: &mut [[usize; 2]; 10],
     valid: &mut [u64; 16],
-    moves: &mut [[usize; 6]; 256],
-    move_guards: &mut [[u64; 16]; 256],
-    stops: &mut [[usize; 2]; 64],
-    stop_guards: &mut [[u64; 16]; 64],
+    moves: &mut [[usize; 6]],
+    move_guards: &mut [[u64; 16]],
+    stops: &mut [[usize; 2]],
+    stop_guards: &mut [[u64; 16]],
 ) -> SheetRead
-    requires { ⌜ (tables (now names) (now valid) (now moves) (now «move_guards») (now stops) (now «stop_guards») ≡ blankTables) × (getD (now text) (length (now text) - 1) 0 ≡ 10) ⌝ }
+    requires { ⌜ (tables (now names) (now valid) (now moves) (now «move_guards») (now stops) (now «stop_guards») ≡ blankTables (length (now moves)) (length (now «move_guards»)) (length (now stops)) (length (now «stop_guards»))) × (getD (now text) (length (now text) - 1) 0 ≡ 10) ⌝ }
+    requires { ⌜ (min (length (now text)) 2048 ≤ 8 * length (now moves)) × (min (length (now text)) 2048 ≤ 8 * length (now «move_guards»)) × (min (length (now text)) 384 ≤ 6 * length (now stops)) × (min (length (now text)) 384 ≤ 6 * length (now «stop_guards»)) ⌝ }
     ensures { λ r. ⌜ Ends (now (text .entry)) (tables (now (names .exit)) (now (valid .exit)) (now (moves .exit)) (now («move_guards» .exit)) (now (stops .exit)) (now («stop_guards» .exit))) r (readLines 1 0 nothing (lines (now (text .entry)))) ⌝ }
 {
     let mut seen = [0u8; 2048];

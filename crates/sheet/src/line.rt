@@ -3,7 +3,7 @@
 // behind the line's word and tab, and `at` its place in the text.
 ghost use mathlib.Core.Path.{_≡_};
 ghost use mathlib.Core.List.{List, _∷_};
-ghost use Prim.Native.Nat.{ℕ, _+_, _≤_, _<_};
+ghost use Prim.Native.Nat.{ℕ, _+_, _*_, _≤_, _<_, min};
 ghost use lib.ListN.{length};
 ghost use Rattle.products.specs.Sets.{oneIf};
 ghost use Rattle.fields.specs.Bytes.{part, sameBytes};
@@ -39,13 +39,14 @@ pub(crate) fn read_line(
     c: Progress,
     names: &mut [[usize; 2]; 10],
     valid: &mut [u64; 16],
-    moves: &mut [[usize; 6]; 256],
-    move_guards: &mut [[u64; 16]; 256],
-    stops: &mut [[usize; 2]; 64],
-    stop_guards: &mut [[u64; 16]; 64],
+    moves: &mut [[usize; 6]],
+    move_guards: &mut [[u64; 16]],
+    stops: &mut [[usize; 2]],
+    stop_guards: &mut [[u64; 16]],
     seen: &mut [u8; 2048],
 ) -> LineRead
-    requires { ⌜ (place .at ≤ place .end) × (place .end ≤ length (now text)) ⌝ }
+    requires { ⌜ (place .at ≤ place .end) × (place .end ≤ length (now text)) × (c .moves * 8 + c .stops * 6 ≤ place .at) ⌝ }
+    requires { ⌜ (min (length (now text)) 2048 ≤ 8 * length (now moves)) × (min (length (now text)) 2048 ≤ 8 * length (now «move_guards»)) × (min (length (now text)) 384 ≤ 6 * length (now stops)) × (min (length (now text)) 384 ≤ 6 * length (now «stop_guards»)) ⌝ }
     ensures { λ r. ⌜ ((st : State) → Stands (now (text .entry)) (tables (now (names .entry)) (now (valid .entry)) (now (moves .entry)) (now («move_guards» .entry)) (now (stops .entry)) (now («stop_guards» .entry))) (now (seen .entry)) c st → Says (now (text .entry)) (tables (now (names .exit)) (now (valid .exit)) (now (moves .exit)) (now («move_guards» .exit)) (now (stops .exit)) (now («stop_guards» .exit))) (now (seen .exit)) r (readLine (place .number) (place .at) st (part (now (text .entry)) (place .at) (place .end)))) ⌝ }
 {
     let at = place.at;
@@ -234,11 +235,12 @@ fn read_move(
     line: usize,
     c: Progress,
     names: &[[usize; 2]; 10],
-    moves: &mut [[usize; 6]; 256],
-    move_guards: &mut [[u64; 16]; 256],
+    moves: &mut [[usize; 6]],
+    move_guards: &mut [[u64; 16]],
     seen: &mut [u8; 2048],
 ) -> LineRead
-    requires { ⌜ at + length (now rest) ≤ length (now text) ⌝ }
+    requires { ⌜ (at + length (now rest) ≤ length (now text)) × (c .moves * 8 + 5 + length (now rest) ≤ length (now text)) ⌝ }
+    requires { ⌜ (min (length (now text)) 2048 ≤ 8 * length (now moves)) × (min (length (now text)) 2048 ≤ 8 * length (now «move_guards»)) ⌝ }
     ensures { λ r. ⌜ ((v : List ℕ) (t h : List (List ℕ)) (st : State) → Stands (now (text .entry)) (tables (now (names .entry)) v (now (moves .entry)) (now («move_guards» .entry)) t h) (now (seen .entry)) c st → Lies (now (text .entry)) (now (rest .entry)) at → Says (now (text .entry)) (tables (now (names .entry)) v (now (moves .exit)) (now («move_guards» .exit)) t h) (now (seen .exit)) r (moveLine line at st (asFour (fields (now (rest .entry)))))) ⌝ }
 {
     let cut = cutting::cut_four(rest);
@@ -300,11 +302,11 @@ fn keep_move(
     to: usize,
     guard: &[u8],
     names: &[[usize; 2]; 10],
-    moves: &mut [[usize; 6]; 256],
-    move_guards: &mut [[u64; 16]; 256],
+    moves: &mut [[usize; 6]],
+    move_guards: &mut [[u64; 16]],
     seen: &mut [u8; 2048],
 ) -> LineRead
-    requires { ⌜ (place + length (now action) ≤ length (now text)) × (c .moves < 256) ⌝ }
+    requires { ⌜ (place + length (now action) ≤ length (now text)) × (c .moves < 256) × (c .moves < length (now moves)) × (c .moves < length (now «move_guards»)) ⌝ }
     ensures { λ r. ⌜ ((v : List ℕ) (t h : List (List ℕ)) (st : State) → Stands (now (text .entry)) (tables (now (names .entry)) v (now (moves .entry)) (now («move_guards» .entry)) t h) (now (seen .entry)) c st → Lies (now (text .entry)) (now (action .entry)) place → Says (now (text .entry)) (tables (now (names .entry)) v (now (moves .exit)) (now («move_guards» .exit)) t h) (now (seen .exit)) r (guardedMove line st from (now (action .entry)) place to (now (guard .entry)))) ⌝ }
 {
     let g = guards::read_whole(text, names, c.features, guard);
@@ -336,9 +338,11 @@ fn read_stop(
     line: usize,
     c: Progress,
     names: &[[usize; 2]; 10],
-    stops: &mut [[usize; 2]; 64],
-    stop_guards: &mut [[u64; 16]; 64],
+    stops: &mut [[usize; 2]],
+    stop_guards: &mut [[u64; 16]],
 ) -> LineRead
+    requires { ⌜ c .stops * 6 + 5 + length (now rest) ≤ length (now text) ⌝ }
+    requires { ⌜ (min (length (now text)) 384 ≤ 6 * length (now stops)) × (min (length (now text)) 384 ≤ 6 * length (now «stop_guards»)) ⌝ }
     ensures { λ r. ⌜ ((v : List ℕ) (m g : List (List ℕ)) (seen : List ℕ) (st : State) → Stands (now (text .entry)) (tables (now (names .entry)) v m g (now (stops .entry)) (now («stop_guards» .entry))) seen c st → Says (now (text .entry)) (tables (now (names .entry)) v m g (now (stops .exit)) (now («stop_guards» .exit))) seen r (stopLine line st (asTwo (fields (now (rest .entry)))))) ⌝ }
 {
     let cut = cutting::cut_two(rest);

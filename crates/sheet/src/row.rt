@@ -3,7 +3,7 @@
 ghost use mathlib.Core.Path.{_≡_};
 ghost use mathlib.Core.List.{List};
 ghost use Prim.Native.Nat.{ℕ, _+_, _*_, _%_, _<_, min};
-ghost use lib.ListN.{getD};
+ghost use lib.ListN.{length, getD};
 ghost use Rattle.sheet.specs.Sheet.{Move, Stop};
 ghost use Rattle.sheet.specs.Reading.{isMove, moved, stopped};
 ghost use Rattle.sheet.specs.Tables.{Rows, MoveRow, StopRow};
@@ -12,14 +12,14 @@ ghost use Rattle.sheet.specs.Inside.{placeOf, Marked, Tells};
 // Whether one of the first `count` moves has this from, action and to; leaves a mark at their place.
 pub(crate) fn is_repeat(
     text: &[u8],
-    moves: &[[usize; 6]; 256],
+    moves: &[[usize; 6]],
     count: usize,
     seen: &mut [u8; 2048],
     from: usize,
     action: &[u8],
     to: usize,
 ) -> bool
-    ensures { λ r. ⌜ ((ms : List Move) → Rows (λ i m. MoveRow (now (text .entry)) (getD (now (moves .entry)) i List.[]) m) (min count 256) ms → Marked (now (seen .entry)) ms → Tells (now (seen .exit)) from (now (action .entry)) to ms r) ⌝ }
+    ensures { λ r. ⌜ ((ms : List Move) → Rows (λ i m. MoveRow (now (text .entry)) (getD (now (moves .entry)) i List.[]) m) (min count (length (now (moves .entry)))) ms → Marked (now (seen .entry)) ms → Tells (now (seen .exit)) from (now (action .entry)) to ms r) ⌝ }
 {
     let h = place_of(from, action, to);
     if seen[h] == 0 {
@@ -67,15 +67,15 @@ fn is_move(text: &[u8], row: [usize; 6], from: usize, action: &[u8], to: usize) 
 // Whether one of the first `count` moves has this from, action and to.
 fn has_move(
     text: &[u8],
-    moves: &[[usize; 6]; 256],
+    moves: &[[usize; 6]],
     count: usize,
     from: usize,
     action: &[u8],
     to: usize,
 ) -> bool
-    ensures { λ r. ⌜ ((ms : List Move) → Rows (λ i m. MoveRow (now (text .entry)) (getD (now (moves .entry)) i List.[]) m) (min count 256) ms → r ≡ moved from (now (action .entry)) to ms) ⌝ }
+    ensures { λ r. ⌜ ((ms : List Move) → Rows (λ i m. MoveRow (now (text .entry)) (getD (now (moves .entry)) i List.[]) m) (min count (length (now (moves .entry)))) ms → r ≡ moved from (now (action .entry)) to ms) ⌝ }
 {
-    let mut i = counts::at_most(count, 256);
+    let mut i = counts::at_most(count, moves.len());
     while 0 < i {
         i -= 1;
         let row = moves[i];
@@ -87,10 +87,10 @@ fn has_move(
 }
 
 // Whether one of the first `count` stops is for this state.
-pub(crate) fn has_stop(stops: &[[usize; 2]; 64], count: usize, state: usize) -> bool
-    ensures { λ r. ⌜ ((ds : List Stop) → Rows (λ i d. StopRow (getD (now (stops .entry)) i List.[]) d) (min count 64) ds → r ≡ stopped state ds) ⌝ }
+pub(crate) fn has_stop(stops: &[[usize; 2]], count: usize, state: usize) -> bool
+    ensures { λ r. ⌜ ((ds : List Stop) → Rows (λ i d. StopRow (getD (now (stops .entry)) i List.[]) d) (min count (length (now (stops .entry)))) ds → r ≡ stopped state ds) ⌝ }
 {
-    let mut i = counts::at_most(count, 64);
+    let mut i = counts::at_most(count, stops.len());
     while 0 < i {
         i -= 1;
         let row = stops[i];

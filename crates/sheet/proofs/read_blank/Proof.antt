@@ -5,36 +5,43 @@ use Rattle.sheet.proofs.read_blank.Statement.{statement}
 use Rattle.sheet.proofs.read_blank.Tie as tie
 
 returns : tie.Need-returns
-returns c = sheet-long _ (c .before .before .before .pre) (c .before .if1 .taken) (c .refuse-sheet .ensures)
+returns c = sheet-long _ (c .before .before .before .pre .0) (c .before .if1 .taken) (c .refuse-sheet .ensures)
 
 returns-2 : tie.Need-returns-2
-returns-2 c = sheet-empty _ (c .before .before .if1 .left) (c .before .before .before .before .pre) (c .before .if2 .taken) (c .refuse-sheet2 .ensures)
+returns-2 c = sheet-empty _ (c .before .before .if1 .left) (c .before .before .before .before .pre .0) (c .before .if2 .taken)
+    (c .refuse-sheet2 .ensures)
 
 returns-3 : tie.Need-returns-3
 returns-3 c =
     sheet-open _ (c .before .before .before .before .if1 .left) (c .before .before .before .if2 .left)
-    (c .before .before .before .before .before .before .pre) (c .before .if3 .taken) (c .refuse-sheet3 .ensures)
+    (c .before .before .before .before .before .before .pre .0) (c .before .if3 .taken) (c .refuse-sheet3 .ensures)
 
 read-lines-requires : tie.Need-read-lines-requires
 read-lines-requires c κs = (
-  c .before .before .before .before .before .before .before .before .before .before .before .pre,
-  c .before .before .before .before .before .before .if3 .left,
+  (
+    c .before .before .before .before .before .before .before .before .before .before .before .pre .0,
+    c .before .before .before .before .before .before .if3 .left,
+  ),
+  c .before .before .before .before .before .before .before .before .before .before .before .pre .1,
 )
 
 returns-4 : tie.Need-returns-4
 returns-4 c =
     sheet-refused _
-    (c .before .before .before .before .before .before .before .before .before .before .before .before .before .before .before .before .before .before .before .if1 .left)
-    (c .before .before .before .before .before .before .before .before .before .before .before .before .before .before .before .before .before .before .if2 .left)
-    (c .before .before .before .before .before .before .before .before .before .before .before .before .before .before .before .before .if3 .left)
-    (c .before .before .before .before .before .before .before .before .before .read-lines .ensures)
-    (c .before .before .before .before .before .before .before .enum-told2 .given .1) (c .clear .ensures)
+    (c .before .before .before .before .before .before .before .before .before .before .before .before .before .before .before .before .before .before .before .before .before .before .before .before .before .before .before .if1 .left)
+    (c .before .before .before .before .before .before .before .before .before .before .before .before .before .before .before .before .before .before .before .before .before .before .before .before .before .before .if2 .left)
+    (c .before .before .before .before .before .before .before .before .before .before .before .before .before .before .before .before .before .before .before .before .before .before .before .before .if3 .left)
+    (c .before .before .before .before .before .before .before .before .before .before .before .before .before .before .before .before .before .read-lines .ensures)
+    (c .before .before .before .before .before .before .before .before .before .before .before .enum-told2 .given .1)
+    (c .before .before .before .before .clear-lent .ensures)
 
 returns-5 : tie.Need-returns-5
 returns-5 c =
-    sheet-kept _ (c .before .before .before .before .before .before .before .before .before .before .before .before .if1 .left)
-    (c .before .before .before .before .before .before .before .before .before .before .before .if2 .left)
-    (c .before .before .before .before .before .before .before .before .before .if3 .left) (c .before .before .read-lines .ensures)
+    sheet-kept _
+    (c .before .before .before .before .before .before .before .before .before .before .before .before .before .before .before .before .if1 .left)
+    (c .before .before .before .before .before .before .before .before .before .before .before .before .before .before .before .if2 .left)
+    (c .before .before .before .before .before .before .before .before .before .before .before .before .before .if3 .left)
+    (c .before .before .before .before .before .before .read-lines .ensures)
     (c .enum-told .given .1)
 
 pub read-blank-spec : {M : Type 1} → statement M
@@ -53,5 +60,13 @@ read-blank-spec =
     (λ c. search needs)
     (λ c. search needs)
     (λ c κs. search needs)
+    (λ c. search needs)
+    (λ c. search needs)
+    (λ c. search needs)
+    (λ c. search needs)
     returns-4
+    (λ c. search needs)
+    (λ c. search needs)
+    (λ c. search needs)
+    (λ c. search needs)
     returns-5)

@@ -26,7 +26,9 @@ returns-3 c =
     (c .before .before .before .before .before .before .before .before .read-whole .result .set) so
     (c .before .before .before .before .before .before .before .before .read-whole .ensures)
     (c .before .before .before .before .before .before .enum-told .given .1) (c .before .before .before .is-repeat .ensures)
-    (c .before .before .if1 .left) (c .before .before .before .before .before .before .before .before .before .before .before .before .pre .1) lies
+    (c .before .before .if1 .left) (c .before .before .before .before .before .before .before .before .before .before .before .before .pre .1)
+    (c .before .before .before .before .before .before .before .before .before .before .before .before .pre .2)
+    (c .before .before .before .before .before .before .before .before .before .before .before .before .pre .3) lies
     (c .before .plain .ensures)
 
 pub keep-move-spec : {M : Type 1} → statement M
@@ -40,9 +42,12 @@ keep-move-spec =
     (λ c. search needs)
     (λ c κs. search needs)
     (λ c κs. search needs)
+    (λ c. search needs)
     returns-2
     (λ c. search needs)
     (λ c κs. search needs)
+    (λ c. search needs)
+    (λ c. search needs)
     (λ c. search needs)
     (λ c. search needs)
     (λ c. search needs)

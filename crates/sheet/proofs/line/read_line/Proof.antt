@@ -4,7 +4,7 @@ use mathlib.Core.Path.{refl}
 use native.Mathlib.Omega.{arith}
 use Rattle.fields.specs.Bytes.{part}
 use Rattle.sheet.proofs.Lines.{refuses}
-use Rattle.sheet.proofs.Whole.{line-alone, line-of, rest-lies}
+use Rattle.sheet.proofs.Whole.{line-alone, line-of, rest-lies, word-room}
 use Rattle.sheet.proofs.line.read_line.Statement.{statement}
 use Rattle.sheet.proofs.line.read_line.Tie as tie
 
@@ -15,31 +15,42 @@ returns c = λ st so. refuses (c .refuse .ensures) (line-alone _ (c .before .bef
 add-next : tie.Need-add-next
 unfolding part
 add-next c =
-    let z = (rest-lies _ _ _ (c .before .before .before .before .before .before .before .pre .0)
-    (c .before .before .before .before .before .before .before .pre .1) _ (c .before .before .before .if1 .left)) .within in
+    let z = (rest-lies _ _ _ (c .before .before .before .before .before .before .before .pre .0 .0)
+    (c .before .before .before .before .before .before .before .pre .0 .1) _ (c .before .before .before .if1 .left)) .within in
     omega arith
 
 add-next-2 : tie.Need-add-next-2
 unfolding part
 add-next-2 c =
-    let z = (rest-lies _ _ _ (c .before .before .before .before .before .before .before .pre .0)
-    (c .before .before .before .before .before .before .before .pre .1) _ (c .before .before .before .if1 .left)) .within in
+    let z = (rest-lies _ _ _ (c .before .before .before .before .before .before .before .pre .0 .0)
+    (c .before .before .before .before .before .before .before .pre .0 .1) _ (c .before .before .before .if1 .left)) .within in
     omega arith
 
 read-feature-requires : tie.Need-read-feature-requires
 unfolding part
 read-feature-requires c κs =
-    (rest-lies _ _ _ (c .before .before .before .before .before .before .before .before .before .before .pre .0)
-    (c .before .before .before .before .before .before .before .before .before .before .pre .1) _
+    (rest-lies _ _ _ (c .before .before .before .before .before .before .before .before .before .before .pre .0 .0)
+    (c .before .before .before .before .before .before .before .before .before .before .pre .0 .1) _
     (c .before .before .before .before .before .before .if1 .left)) .within
 
 read-move-requires : tie.Need-read-move-requires
 unfolding part
 read-move-requires c κs =
-    (rest-lies _ _ _
-    (c .before .before .before .before .before .before .before .before .before .before .before .before .before .pre .0)
-    (c .before .before .before .before .before .before .before .before .before .before .before .before .before .pre .1) _
-    (c .before .before .before .before .before .before .before .before .before .if1 .left)) .within
+    let p = c .before .before .before .before .before .before .before .before .before .before .before .before .before .pre in
+    let z = word-room _ _ _ (p .0 .0) (p .0 .1) _ (c .before .before .before .before .before .before .before .before .before .if1 .left)
+    (c .before .before .before .before .before .before .before .before .before .before .before .before .before .args .c .section)
+    (c .before .before .before .before .before .before .line-kind .ensures) (c .before .before .before .before .enum-told5 .given .1) in
+    let y = rest-lies _ _ _ (p .0 .0) (p .0 .1) _ (c .before .before .before .before .before .before .before .before .before .if1 .left) in
+    ((y .within, omega (arith, z, p .0 .2)), (p .1 .0, p .1 .1))
+
+read-stop-requires : tie.Need-read-stop-requires
+unfolding part
+read-stop-requires c κs =
+    let p = c .before .before .before .before .before .before .before .before .before .before .before .before .pre in
+    let z = word-room _ _ _ (p .0 .0) (p .0 .1) _ (c .before .before .before .before .before .before .before .before .if1 .left)
+    (c .before .before .before .before .before .before .before .before .before .before .before .before .args .c .section)
+    (c .before .before .before .before .before .line-kind .ensures) (c .before .before .before .enum-told6 .given .1) in
+    (omega (arith, z, p .0 .2), (p .1 .2, p .1 .3))
 
 returns-2 : tie.Need-returns-2
 unfolding part
@@ -57,8 +68,8 @@ returns-3 c =
     (c .before .before .before .before .before .before .before .if1 .left) (so .section) (c .before .before .before .before .line-kind .ensures)
     (c .before .before .enum-told2 .given .1)
     (c .read-feature .ensures _ _ _ _ _ _ st so
-    (rest-lies _ _ _ (c .before .before .before .before .before .before .before .before .before .before .before .pre .0)
-    (c .before .before .before .before .before .before .before .before .before .before .before .pre .1) _
+    (rest-lies _ _ _ (c .before .before .before .before .before .before .before .before .before .before .before .pre .0 .0)
+    (c .before .before .before .before .before .before .before .before .before .before .before .pre .0 .1) _
     (c .before .before .before .before .before .before .before .if1 .left)))
 
 returns-4 : tie.Need-returns-4
@@ -82,22 +93,25 @@ returns-6 : tie.Need-returns-6
 unfolding part
 returns-6 c =
     λ st so.
-    line-of _ (c .before .before .before .before .before .before .before .before .before .before .before .find .ensures) _ _ st
-    (c .before .before .before .before .before .before .before .before .before .before .if1 .left) (so .section)
-    (c .before .before .before .before .before .before .before .line-kind .ensures) (c .before .before .before .before .before .enum-told5 .given .1)
-    (c .read-move .ensures _ _ _ st so
-    (rest-lies _ _ _ (c .before .before .before .before .before .before .before .before .before .before .before .before .before .before .pre .0)
-    (c .before .before .before .before .before .before .before .before .before .before .before .before .before .before .pre .1) _
-    (c .before .before .before .before .before .before .before .before .before .before .if1 .left)))
+    line-of _ (c .before .before .before .before .before .before .before .before .before .before .before .before .before .find .ensures) _ _ st
+    (c .before .before .before .before .before .before .before .before .before .before .before .before .if1 .left) (so .section)
+    (c .before .before .before .before .before .before .before .before .before .line-kind .ensures)
+    (c .before .before .before .before .before .before .before .enum-told5 .given .1)
+    (c .before .before .read-move .ensures _ _ _ st so
+    (rest-lies _ _ _
+    (c .before .before .before .before .before .before .before .before .before .before .before .before .before .before .before .before .pre .0 .0)
+    (c .before .before .before .before .before .before .before .before .before .before .before .before .before .before .before .before .pre .0 .1) _
+    (c .before .before .before .before .before .before .before .before .before .before .before .before .if1 .left)))
 
 returns-7 : tie.Need-returns-7
 unfolding part
 returns-7 c =
     λ st so.
-    line-of _ (c .before .before .before .before .before .before .before .before .before .before .find .ensures) _ _ st
-    (c .before .before .before .before .before .before .before .before .before .if1 .left) (so .section)
-    (c .before .before .before .before .before .before .line-kind .ensures) (c .before .before .before .before .enum-told6 .given .1)
-    (c .read-stop .ensures _ _ _ _ st so)
+    line-of _ (c .before .before .before .before .before .before .before .before .before .before .before .before .find .ensures) _ _ st
+    (c .before .before .before .before .before .before .before .before .before .before .before .if1 .left) (so .section)
+    (c .before .before .before .before .before .before .before .before .line-kind .ensures)
+    (c .before .before .before .before .before .before .enum-told6 .given .1)
+    (c .before .before .read-stop .ensures _ _ _ _ st so)
 
 returns-8 : tie.Need-returns-8
 unfolding part
@@ -138,13 +152,17 @@ read-line-spec =
     (λ c. search needs)
     read-move-requires
     (λ c. search needs)
-    (λ c κs. search needs)
+    read-stop-requires
     (λ c. search needs)
     (λ c κs. search needs)
     returns-2
     returns-3
     returns-4
     returns-5
+    (λ c. search needs)
+    (λ c. search needs)
     returns-6
+    (λ c. search needs)
+    (λ c. search needs)
     returns-7
     returns-8)

@@ -7,7 +7,8 @@ use Rattle.sheet.proofs.line.read_move.Statement.{statement}
 use Rattle.sheet.proofs.line.read_move.Tie as tie
 
 returns : tie.Need-returns
-returns c = λ v t h st so lies. move-wrong _ _ _ st (c .before .enum-told .given .1) (c .before .before .before .cut-four .ensures) (c .refuse .ensures)
+returns c = λ v t h st so lies. move-wrong _ _ _ st (c .before .enum-told .given .1) (c .before .before .before .cut-four .ensures)
+    (c .refuse .ensures)
 
 returns-2 : tie.Need-returns-2
 returns-2 c =
@@ -16,7 +17,8 @@ returns-2 c =
     (c .before .if1 .taken) (c .refuse2 .ensures)
 
 sub-read-triple : tie.Need-sub-read-triple
-sub-read-triple c = let k = ends-of _ (c .before .before .before .cut .given .1) (c .before .before .before .before .before .cut-four .ensures) in omega arith
+sub-read-triple c = let k = ends-of _ (c .before .before .before .cut .given .1)
+    (c .before .before .before .before .before .cut-four .ensures) in omega arith
 
 part-read-triple-start : tie.Need-part-read-triple-start
 part-read-triple-start c =
@@ -143,29 +145,35 @@ part-keep-move-end-2 c =
 
 keep-move-requires : tie.Need-keep-move-requires
 unfolding part
-keep-move-requires c κs = (
-  action-fits _
-      (c .before .before .before .before .before .before .before .before .before .before .before .before .before .before .before .cut .given .1)
-      (c .before .before .before .before .before .before .before .before .before .before .before .before .before .before .before .before .before .cut-four .ensures)
-      _ _
-      (c .before .before .before .before .before .before .before .before .before .before .before .before .before .before .before .before .before .before .before .before .pre),
-  c .before .before .before .before .before .before .before .before .before .before .before .before .if1 .left,
-)
+keep-move-requires c κs =
+    let k = ends-of _
+    (c .before .before .before .before .before .before .before .before .before .before .before .before .before .before .before .cut .given .1)
+    (c .before .before .before .before .before .before .before .before .before .before .before .before .before .before .before .before .before .cut-four .ensures) in
+    let few = c .before .before .before .before .before .before .before .before .before .before .before .before .if1 .left in
+    let p = c .before .before .before .before .before .before .before .before .before .before .before .before .before .before .before .before .before .before .before .before .pre in (
+      action-fits _
+          (c .before .before .before .before .before .before .before .before .before .before .before .before .before .before .before .cut .given .1)
+          (c .before .before .before .before .before .before .before .before .before .before .before .before .before .before .before .before .before .cut-four .ensures) _ _
+          (p .0 .0),
+      few,
+      omega (arith, p .0 .1, p .1 .0),
+      omega (arith, p .0 .1, p .1 .1),
+    )
 
 returns-4 : tie.Need-returns-4
 unfolding part
 returns-4 c =
     λ v t h st so lies.
     move-on _ _ _ st so
-    (c .before .before .before .before .before .before .before .before .before .before .before .before .before .before .before .before .cut .given .1)
-    (c .before .before .before .before .before .before .before .before .before .before .before .before .before .before .before .before .before .before .cut-four .ensures)
-    (c .before .before .before .before .before .before .before .before .before .before .before .before .before .if1 .left)
-    (c .before .before .before .before .before .before .before .before .before .read-triple .ensures)
-    (c .before .before .before .before .before .before .before .t .given .1)
-    (c .keep-move .ensures v t h st so
+    (c .before .before .before .before .before .before .before .before .before .before .before .before .before .before .before .before .before .before .cut .given .1)
+    (c .before .before .before .before .before .before .before .before .before .before .before .before .before .before .before .before .before .before .before .before .cut-four .ensures)
+    (c .before .before .before .before .before .before .before .before .before .before .before .before .before .before .before .if1 .left)
+    (c .before .before .before .before .before .before .before .before .before .before .before .read-triple .ensures)
+    (c .before .before .before .before .before .before .before .before .before .t .given .1)
+    (c .before .before .keep-move .ensures v t h st so
     (action-lies _
-    (c .before .before .before .before .before .before .before .before .before .before .before .before .before .before .before .before .cut .given .1)
-    (c .before .before .before .before .before .before .before .before .before .before .before .before .before .before .before .before .before .before .cut-four .ensures)
+    (c .before .before .before .before .before .before .before .before .before .before .before .before .before .before .before .before .before .before .cut .given .1)
+    (c .before .before .before .before .before .before .before .before .before .before .before .before .before .before .before .before .before .before .before .before .cut-four .ensures)
     lies))
 
 pub read-move-spec : {M : Type 1} → statement M
@@ -206,4 +214,6 @@ read-move-spec =
     part-keep-move-start-2
     part-keep-move-end-2
     keep-move-requires
+    (λ c. search needs)
+    (λ c. search needs)
     returns-4)

@@ -89,6 +89,24 @@ returns-5 c =
     (c .before .before .before .before .before .before .before .read-whole .ensures) (c .before .before .before .before .before .enum-told3 .given .1)
     (c .before .before .before .has-stop .ensures) (c .before .before .if1 .left) (c .before .if2 .taken)
 
+slice-set-from-stops : tie.Need-slice-set-from-stops
+slice-set-from-stops c =
+    let k = parted-of _
+    (c .before .before .before .before .before .before .before .before .before .before .before .before .before .before .cut .given .1)
+    (c .before .before .before .before .before .before .before .before .before .before .before .before .before .before .before .before .cut-two .ensures) in
+    let few = c .if2 .left in
+    let p = c .before .before .before .before .before .before .before .before .before .before .before .before .before .before .before .before .before .before .before .pre in
+    omega (arith, p .0, p .1 .0)
+
+slice-set-from-set : tie.Need-slice-set-from-set
+slice-set-from-set c =
+    let k = parted-of _
+    (c .before .before .before .before .before .before .before .before .before .before .before .before .before .before .before .cut .given .1)
+    (c .before .before .before .before .before .before .before .before .before .before .before .before .before .before .before .before .before .cut-two .ensures) in
+    let few = c .before .if2 .left in
+    let p = c .before .before .before .before .before .before .before .before .before .before .before .before .before .before .before .before .before .before .before .before .pre in
+    omega (arith, p .0, p .1 .1)
+
 returns-6 : tie.Need-returns-6
 unfolding part
 returns-6 c =
@@ -102,7 +120,7 @@ returns-6 c =
     (c .before .before .before .before .before .before .before .before .read-whole .result .set) so
     (c .before .before .before .before .before .before .before .before .read-whole .ensures)
     (c .before .before .before .before .before .before .enum-told3 .given .1) (c .before .before .before .before .has-stop .ensures)
-    (c .before .before .before .if1 .left) (c .with-stop .ensures)
+    (c .before .before .before .if1 .left) (slice-set-from-stops (c .before .before)) (slice-set-from-set (c .before)) (c .with-stop .ensures)
 
 pub read-stop-spec : {M : Type 1} → statement M
 read-stop-spec =
@@ -132,12 +150,16 @@ read-stop-spec =
     (λ c. search needs)
     (λ c κs. search needs)
     (λ c κs. search needs)
+    (λ c. search needs)
     returns-4
     (λ c κs. search needs)
+    (λ c. search needs)
     returns-5
     (λ c. search needs)
+    slice-set-from-stops
     (λ c. search needs)
-    (λ c. search needs)
-    (λ c. search needs)
+    slice-set-from-set
     (λ c κs. search needs)
+    (λ c. search needs)
+    (λ c. search needs)
     returns-6)

@@ -4,7 +4,7 @@ use borrow.Author.Needs.{needs}
 use mathlib.Core.Path.{sym, _∙_}
 use Prim.Native.Nat.{min}
 use mathlib.Core.List.{[]}
-use lib.ListN.{getD}
+use lib.ListN.{length, getD}
 use Rattle.sheet.specs.Reading.{moved}
 use Rattle.sheet.specs.Tables.{MoveRow}
 use Rattle.sheet.proofs.Looking.{Looked, looked-all, looked-more, looked-found, looked-none, move-found, move-more, move-none}
@@ -12,7 +12,7 @@ use Rattle.sheet.proofs.row.has_move.Statement.{statement}
 use Rattle.sheet.proofs.row.has_move.Tie as tie
 
 abbrev Inv-loop : tie.InvT-loop
-Inv-loop text moves count from action to i₀ i = Looked (λ k m. MoveRow text (getD moves k []) m) (moved from action to) (min count 256) i
+Inv-loop text moves count from action to i₀ i = Looked (λ k m. MoveRow text (getD moves k []) m) (moved from action to) (min count (length moves)) i
 
 abbrev μ-loop : tie.MeasureT-loop
 μ-loop text moves count from action to i₀ i = i

@@ -3,7 +3,7 @@
 use borrow.Author.Needs.{needs}
 use Prim.Native.Nat.{min}
 use mathlib.Core.List.{[]}
-use lib.ListN.{getD}
+use lib.ListN.{length, getD}
 use Rattle.sheet.specs.Reading.{stopped}
 use Rattle.sheet.specs.Tables.{StopRow}
 use Rattle.sheet.proofs.Looking.{Looked, looked-all, looked-more, looked-found, looked-none, stop-found, stop-more, stop-none}
@@ -11,7 +11,7 @@ use Rattle.sheet.proofs.row.has_stop.Statement.{statement}
 use Rattle.sheet.proofs.row.has_stop.Tie as tie
 
 abbrev Inv-loop : tie.InvT-loop
-Inv-loop stops count state i₀ i = Looked (λ k d. StopRow (getD stops k []) d) (stopped state) (min count 64) i
+Inv-loop stops count state i₀ i = Looked (λ k d. StopRow (getD stops k []) d) (stopped state) (min count (length stops)) i
 
 abbrev μ-loop : tie.MeasureT-loop
 μ-loop stops count state i₀ i = i
