@@ -7,7 +7,7 @@ use mathlib.Core.Logic.{_⊎_, inl, inr, ⊎-elim}
 use Prim.Native.Nat.{ℕ, zero, suc, _%_, _≤_, _<_}
 use native.Mathlib.Omega.{arith}
 use borrow.Author.Tests.{lt-ltb, le-ltb, eq-eqb, ne-eqb}
-use lib.ListN.{length, getD, take, drop, List·getD-append}
+use lib.ListN.{length, getD, take, drop, replicate, List·getD-append, List·getD-eq-default}
 use Rattle.ordering.specs.Ordering.{lessBytes, rowKey, keyAt, insertBy, Ordered, none, takes, passes, Orders}
 use Rattle.ordering.specs.Halving.{Level}
 
@@ -286,3 +286,7 @@ module _ {key : ℕ → List ℕ} {P : ℕ → Type 0} {n r : ℕ} {order order�
 pub key-at : (s : List ℕ) (t : List (List ℕ)) (i : ℕ) → i < 256 → keyAt s t i ≡ rowKey s (getD t i [])
 unfolding keyAt
 key-at s t i h = let e : i % 256 ≡ i = omega arith in rw e
+
+-- a row that is not there has the key of a row of zeros
+pub key-none : (s : List ℕ) (t : List (List ℕ)) (i : ℕ) → length t ≤ i → rowKey s (replicate 6 0) ≡ rowKey s (getD t i [])
+key-none s t i h = rw (List·getD-eq-default t [] h)

@@ -1,26 +1,28 @@
 // The moves that are not dead, in order: by from, then to, then the action's bytes, a shorter one before
 // its extensions. Row numbers are put in one after another; rows themselves stay where they are.
 ghost use mathlib.Core.Path.{_≡_};
-ghost use mathlib.Core.List.{List, _∷_, _++_};
+ghost use mathlib.Core.List.{List, [], _∷_, _++_};
 ghost use Prim.Native.Nat.{ℕ, _+_, _≤_, _<_, min};
-ghost use lib.ListN.{length, take, drop};
+ghost use lib.ListN.{length, getD, take, drop};
 ghost use Rattle.ordering.specs.Ordering.{lessBytes, rowKey, keyAt, MadeRow, insertBy, Orders};
 ghost use Rattle.ordering.specs.Halving.{Level, Between};
 
 // Lays the numbers of those of the first `count` moves that some product of its source's set makes into
-// `order`, in order, and answers how many they are.
+// `order`, in order, and answers how many they are. Rows count as far as both tables reach, 256 at most.
 pub fn order_moves(
     text: &[u8],
     count: usize,
-    moves: &[[usize; 6]; 256],
-    guards: &[[u64; 16]; 256],
+    moves: &[[usize; 6]],
+    guards: &[[u64; 16]],
     sets: &[[u64; 16]; 64],
     order: &mut [usize; 256],
 ) -> usize
-    ensures { λ r. ⌜ Orders (keyAt (now (text .entry)) (now (moves .entry))) (MadeRow (now (moves .entry)) (now (guards .entry)) (now (sets .entry))) (min count 256) (now (order .entry)) (now (order .exit)) r ⌝ }
+    ensures { λ r. ⌜ Orders (keyAt (now (text .entry)) (now (moves .entry))) (MadeRow (now (moves .entry)) (now (guards .entry)) (now (sets .entry))) (min (min (min count 256) (length (now (moves .entry)))) (length (now (guards .entry)))) (now (order .entry)) (now (order .exit)) r ⌝ }
 {
     all_places(*order);
-    let n = counts::at_most(count, 256);
+    let most = counts::at_most(count, 256);
+    let rows = counts::at_most(most, moves.len());
+    let n = counts::at_most(rows, guards.len());
     let mut kept = 0;
     let mut i = 0;
     while i < n {
@@ -41,13 +43,13 @@ fn all_places(order: [usize; 256])
 fn order_row(
     text: &[u8],
     i: usize,
-    moves: &[[usize; 6]; 256],
-    guards: &[[u64; 16]; 256],
+    moves: &[[usize; 6]],
+    guards: &[[u64; 16]],
     sets: &[[u64; 16]; 64],
     order: &mut [usize; 256],
     kept: usize,
 ) -> usize
-    requires { ⌜ (kept ≤ i) × (i < 256) ⌝ }
+    requires { ⌜ (kept ≤ i) × (i < 256) × (i < length (now moves)) × (i < length (now guards)) ⌝ }
     ensures { λ r. ⌜ ((first : List ℕ) → length first ≡ 256 → Orders (keyAt (now (text .entry)) (now (moves .entry))) (MadeRow (now (moves .entry)) (now (guards .entry)) (now (sets .entry))) i first (now (order .entry)) kept → Orders (keyAt (now (text .entry)) (now (moves .entry))) (MadeRow (now (moves .entry)) (now (guards .entry)) (now (sets .entry))) (i + 1) first (now (order .exit)) r) × (r ≤ i + 1) ⌝ }
 {
     let row = moves[i];
@@ -60,7 +62,7 @@ fn order_row(
 }
 
 // Puts row x in its place among the first k of `order`, which are in order.
-fn insert(text: &[u8], moves: &[[usize; 6]; 256], order: &mut [usize; 256], k: usize, x: usize)
+fn insert(text: &[u8], moves: &[[usize; 6]], order: &mut [usize; 256], k: usize, x: usize)
     requires { ⌜ k < 256 ⌝ }
     ensures { λ _. ⌜ (length (now (order .entry)) ≡ 256 → Level (keyAt (now (text .entry)) (now (moves .entry))) k (now (order .entry)) → now (order .exit) ≡ insertBy (keyAt (now (text .entry)) (now (moves .entry))) x (take k (now (order .entry))) ++ drop (k + 1) (now (order .entry))) ⌝ }
 {
@@ -70,28 +72,33 @@ fn insert(text: &[u8], moves: &[[usize; 6]; 256], order: &mut [usize; 256], k: u
 
 // How many of the first k of `order`, which are in order, stay in front of row x: each turn halves what is
 // left between those that stay and those that x comes before.
-fn place_of(
-    text: &[u8],
-    moves: &[[usize; 6]; 256],
-    order: &[usize; 256],
-    k: usize,
-    x: usize,
-) -> usize
+fn place_of(text: &[u8], moves: &[[usize; 6]], order: &[usize; 256], k: usize, x: usize) -> usize
     requires { ⌜ k < 256 ⌝ }
     ensures { λ r. ⌜ (r ≤ k) × (Level (keyAt (now (text .entry)) (now (moves .entry))) k (now (order .entry)) → Between (keyAt (now (text .entry)) (now (moves .entry))) x k (now (order .entry)) r r) ⌝ }
 {
+    let row = row_at(moves, x % 256);
     let mut low = 0;
     let mut high = k;
     while low < high {
         let middle = low + (high - low) / 2;
         let y = order[middle];
-        if before(text, moves[x % 256], moves[y % 256]) {
+        if before(text, row, row_at(moves, y % 256)) {
             high = middle;
         } else {
             low = middle + 1;
         }
     }
     low
+}
+
+// Row i, or a row of zeros where the table ends before it: both have the key of row i.
+fn row_at(moves: &[[usize; 6]], i: usize) -> [usize; 6]
+    ensures { λ r. ⌜ ((s : List ℕ) → rowKey s r ≡ rowKey s (getD (now (moves .entry)) i [])) ⌝ }
+{
+    if moves.len() <= i {
+        return [0; 6];
+    }
+    moves[i]
 }
 
 // Puts x at `place` among the first k of `order`: what stands from there on is carried on by one.

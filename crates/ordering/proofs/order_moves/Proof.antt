@@ -8,16 +8,16 @@ use Rattle.ordering.proofs.order_moves.Statement.{statement}
 use Rattle.ordering.proofs.order_moves.Tie as tie
 
 abbrev Inv-loop : tie.InvT-loop
-Inv-loop text count moves guards sets order₀ n kept₀ i₀ order kept i = (i ≤ n) × (kept ≤ i) × Orders (keyAt text moves) (MadeRow moves guards sets) i order₀ order kept
+Inv-loop text count moves guards sets order₀ most rows n kept₀ i₀ order kept i = (i ≤ n) × (kept ≤ i) × Orders (keyAt text moves) (MadeRow moves guards sets) i order₀ order kept
 
 abbrev μ-loop : tie.MeasureT-loop
-μ-loop text count moves guards sets order₀ n kept₀ i₀ order kept i = n - i
+μ-loop text count moves guards sets order₀ most rows n kept₀ i₀ order kept i = n - i
 
 loop-holds : tie.Need-loop-holds Inv-loop μ-loop
 loop-holds c = (search needs, search needs, orders-start _)
 
 loop-again : tie.Need-loop-again Inv-loop μ-loop
-loop-again c = (search needs, search needs, c .order-row .ensures .0 _ (c .before .before .before .before .before .all-places .ensures) (c .before .before .before .loop .inv .2))
+loop-again c = (search needs, search needs, c .order-row .ensures .0 _ (c .before .before .before .before .before .before .before .all-places .ensures) (c .before .before .before .loop .inv .2))
 
 returns : tie.Need-returns Inv-loop μ-loop
 returns c = orders-upto (c .before .loop .inv .2) (omega arith)
@@ -28,6 +28,8 @@ order-moves-spec =
     (tie.spec
     Inv-loop
     μ-loop
+    (λ c κs. search needs)
+    (λ c κs. search needs)
     (λ c κs. search needs)
     (λ c κs. search needs)
     loop-holds
