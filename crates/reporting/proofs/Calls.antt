@@ -3,11 +3,12 @@
 use mathlib.Core.Path.{_≡_, refl, sym, ap, _∙_}
 use mathlib.Core.List.{List, _++_}
 use mathlib.Core.Logic.{_⊎_, inr}
-use Prim.Native.Nat.{ℕ, _-_, _%_, _≤_, _<_, min}
+use Prim.Native.Nat.{ℕ, _-_, _*_, _%_, _≤_, _<_, min}
 use native.Mathlib.Omega.{arith}
-use lib.ListN.{length, take, drop}
+use lib.ListN.{length, take, drop, replicate, length-replicate}
 use Rattle.text.specs.Text.{limit, Wrote}
 use Rattle.text.proofs.Laws.{wrote-then, wrote-long, wrote-text, wrote-whole, wrote-end, dry-fits, dry-too-long}
+use Rattle.products.specs.Sets.{has}
 use Rattle.sheet.specs.declared.Counts.{Counts}
 use Rattle.sheet.specs.Sheet.{Sheet}
 use Rattle.sheet.specs.Reading.{kept, refused, readSheet}
@@ -16,9 +17,11 @@ use Rattle.sheet.proofs.Accepted.{accepted}
 use Rattle.family.specs.Ways.{Depth}
 use Rattle.family.specs.Rounds.{stepAt, Spread}
 use Rattle.family.proofs.Meaning.{spread-reaches, spread-depth}
+use Rattle.verdicts.specs.Judging.{guardsAt}
 use Rattle.reporting.specs.Report.{depthRow, MoveRows, StateRows, StopRows, IsReport}
 use Rattle.reporting.specs.Promise.{TooLong, Reported, Ready}
 use Rattle.reporting.proofs.Determined.{report-determined}
+use Rattle.reporting.proofs.Loops.{guarded-moves}
 
 -- the rows of the moves, of the states and of the stops and the depth's row, laid one after another, are the report
 pub whole-report : {r : Sheet} {depth i j k n : ℕ} {l a b d l′ : List ℕ}
@@ -33,17 +36,66 @@ whole-report {depth = depth} (x, xs, u) (y, ys, v) (z, zs, w) deep t = (
   wrote-then u (wrote-then v (wrote-then w t)),
 )
 
+-- what the guards of the rows that are there give is what those of all moves give
+pub is-outward : {c : Counts} {m g t h sets : List (List ℕ)} {r : Sheet} (at : ℕ → List ℕ) → Ready c m g t h sets r
+    → ((q : ℕ) → q < 64 → (p : ℕ) → p < 1024 → has (at q) p ≡ guardsAt m g q p (min (min (min (c .moves) 256) (length m)) (length g)))
+    → (q : ℕ) → q < 64 → (p : ℕ) → p < 1024 → has (at q) p ≡ guardsAt m g q p (min (c .moves) 256)
+is-outward {m = m} {g = g} at w f q lq p lp = f q lq p lp ∙ ap (guardsAt m g q p) (guarded-moves w)
+
+-- ---- the tables that `report` lends
+
+-- k blank rows of w numbers
+abbrev blankRows : ℕ → ℕ → List (List ℕ)
+blankRows k w = replicate k (replicate w 0)
+
+-- the table t is blank, and has rows of w numbers
+abbrev Blank : List (List ℕ) → ℕ → Type 0
+Blank t w = t ≡ blankRows (length t) w
+
+rows-long : (k w : ℕ) → length (blankRows k w) ≡ k
+rows-long k w = length-replicate k (replicate {A = ℕ} w 0)
+
+rows-blank : (k w : ℕ) → Blank (blankRows k w) w
+rows-blank k w = ap (λ (n : ℕ). blankRows n w) (sym (rows-long k w))
+
+-- k rows of moves and of their guards, and d of stops and of theirs, are blank
+pub lent-blank : (k d : ℕ) → Blank (blankRows k 6) 6 × Blank (blankRows k 16) 16 × Blank (blankRows d 2) 2 × Blank (blankRows d 16) 16
+lent-blank k d = (rows-blank k 6, rows-blank k 16, rows-blank d 2, rows-blank d 16)
+
+-- they are enough for the text s
+abbrev Enough : List ℕ → ℕ → ℕ → Type 0
+Enough s k d =
+    (min (length s) 2048 ≤ 8 * length (blankRows k 6)) × (min (length s) 2048 ≤ 8 * length (blankRows k 16))
+    × (min (length s) 384 ≤ 6 * length (blankRows d 2)) × (min (length s) 384 ≤ 6 * length (blankRows d 16))
+
+enough : (s : List ℕ) (k d : ℕ) → min (length s) 2048 ≤ 8 * k → min (length s) 384 ≤ 6 * d → Enough s k d
+enough s k d a b = rw (rows-long k 6, rows-long k 16, rows-long d 2, rows-long d 16) (a, a, b, b)
+
+pub enough-short : (s : List ℕ) → length s ≤ 256 → Enough s 32 44
+enough-short s l = enough s 32 44 (omega arith) (omega arith)
+
+pub enough-any : (s : List ℕ) → Enough s 256 64
+enough-any s = enough s 256 64 (omega arith) (omega arith)
+
 -- the tables that were read, and the sets that were spread, are those of the sheet
 module _ {s v : List ℕ} {names m g t h sets : List (List ℕ)} {c : Counts} {depth : ℕ}
     (got : (r : Sheet) × (readSheet s ≡ kept r) × StandsFor s (tables names v m g t h) c r)
-    (spread : Spread (c .start % 64) v (stepAt m g) (min (c .moves) 256) sets depth) where
+    (spread : Spread (c .start % 64) v (stepAt m g) (min (min (min (c .moves) 256) (length m)) (length g)) sets depth) where
+  -- the tables have all rows
+  whole-spread : Spread (c .start % 64) v (stepAt m g) (min (c .moves) 256) sets depth
+  whole-spread =
+      let l : c .moves ≤ length m = got .2 .filled .moves .few in
+      let k : c .moves ≤ length g = got .2 .filled .moveGuards .few in
+      let e : min (min (min (c .moves) 256) (length m)) (length g) ≡ min (c .moves) 256 = omega arith in
+      rw e at spread
+
   pub is-ready : Ready c m g t h sets (got .0)
   is-ready =
       let ok = accepted s (got .1) in
-      record { text = s; names = names; valid = v; stands = got .2; accepted = ok; reaches = spread-reaches (got .2) ok spread }
+      record { text = s; names = names; valid = v; stands = got .2; accepted = ok; reaches = spread-reaches (got .2) ok whole-spread }
 
   pub is-depth : Depth (got .0) depth
-  is-depth = spread-depth (got .2) (accepted s (got .1)) spread
+  is-depth = spread-depth (got .2) (accepted s (got .1)) whole-spread
 
 -- what a run of `put_report` promises of the room l
 abbrev Lays : (Sheet → Type 0) → (Sheet → Type 0) → List ℕ → List ℕ → ℕ → Type 0

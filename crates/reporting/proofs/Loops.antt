@@ -1,22 +1,23 @@
 -- The loops of rows. One record for each loop: for every sheet that the tables stand for there is a text of the rows so far, and it was laid. The
 -- rows that were laid are for the last elements of the sheet's list, which has the last line first. Assumes nothing.
 use mathlib.Core.Bool.{Bool, true, false, _||_}
-use mathlib.Core.List.{List, [], _∷_, _++_, append-nil, List·Memᴰ, List·Memᴰ·head, List·Memᴰ·tail}
+use mathlib.Core.List.{List, [], _∷_, _++_, List·Memᴰ, List·Memᴰ·head, List·Memᴰ·tail}
 use mathlib.Core.Logic.{⊎-elim}
 use mathlib.Core.Path.{_≡_, refl, sym, ap, _∙_}
-use Prim.Native.Nat.{ℕ, suc, _+_, _-_, _%_, _≤_, _<_, min}
+use Prim.Native.Nat.{ℕ, zero, suc, _+_, _-_, _*_, _/_, _%_, _^_, _≤_, _<_, min, max}
 use native.Mathlib.Decide.{ℕ-discrete}
-use native.Mathlib.Nat.{eq-or-lt-of-le}
+use native.Mathlib.Nat.{eq-or-lt-of-le, div-eq-of-lt}
 use native.Mathlib.Numerals.{add-one}
 use native.Mathlib.Omega.{arith}
 use borrow.Author.Tests.{eq-eqb, ne-eqb}
 use lib.Bits.{bitOr}
 use lib.Dec.{eqb}
-use lib.ListN.{length, getD, drop, drop-of-length-le, replicate, set, length-set}
-use lib.Seq.{getD-set-same, getD-set-other}
+use lib.ListN.{length, getD, drop, drop-of-length-le, replicate}
+use lib.Pow.{shr-shr}
 use Rattle.text.specs.Text.{limit, Wrote}
 use Rattle.text.proofs.Laws.{wrote-none, wrote-then, wrote-long}
-use Rattle.products.specs.Sets.{has, oneIf, countTo}
+use Rattle.products.specs.Sets.{bit, has, oneIf, countTo}
+use Rattle.products.proofs.Bits.{bit-or, zero-bit}
 use Rattle.products.proofs.Laws.{empty-has}
 use Rattle.sheet.specs.declared.Counts.{Counts}
 use Rattle.sheet.specs.Sheet.{Move, Stop, Sheet}
@@ -27,10 +28,11 @@ use Rattle.verdicts.specs.declared.StateVerdict.{StateVerdict}
 use Rattle.verdicts.specs.declared.StopVerdict.{StopVerdict}
 use Rattle.verdicts.specs.Verdicts.{JudgedAs, StopAs, Named}
 use Rattle.verdicts.specs.Judging.{MoveSets, StateSets, StopSets, guardsAt, rowAt}
+use Rattle.verdicts.proofs.Gathered.{mark-one}
 use Rattle.verdicts.proofs.Shown.{Tells, guards-none}
 use Rattle.verdicts.proofs.Meaning.{named-means, count-judged, move-judged, state-judged, stop-judged}
 use Rattle.reporting.specs.Report.{moveRow, stateRow, stopRow, MoveRows, StateRows, StopRows}
-use Rattle.reporting.specs.Promise.{Ready, Outward, Marked, namedAt, Told}
+use Rattle.reporting.specs.Promise.{Ready, Outward, Marked, Told}
 use Rattle.sheet.proofs.Accepted.{good-move, good-stop}
 
 -- ---- one row more
@@ -75,6 +77,27 @@ module _ {P : Sheet → Type 0} {Q : ℕ → Sheet → List ℕ → Type 0} {roo
             (x .0 ++ y .0, y .1 (x .0) (x .1), wrote-then (x .2) (y .2));
       }
 
+-- ---- the tables have all rows
+
+module _ {c : Counts} {m g t h sets : List (List ℕ)} {r : Sheet} (w : Ready c m g t h sets r) where
+  pub all-moves : min (min (c .moves) 256) (length m) ≡ min (c .moves) 256
+  all-moves = let l : c .moves ≤ length m = w .stands .filled .moves .few in omega arith
+
+  pub guarded-moves : min (min (min (c .moves) 256) (length m)) (length g) ≡ min (c .moves) 256
+  guarded-moves =
+      let l : c .moves ≤ length m = w .stands .filled .moves .few in
+      let k : c .moves ≤ length g = w .stands .filled .moveGuards .few in
+      omega arith
+
+  pub all-stops : min (min (c .stops) 64) (length t) ≡ min (c .stops) 64
+  all-stops = let l : c .stops ≤ length t = w .stands .filled .stops .few in omega arith
+
+  pub guarded-stops : min (min (min (c .stops) 64) (length t)) (length h) ≡ min (c .stops) 64
+  guarded-stops =
+      let l : c .stops ≤ length t = w .stands .filled .stops .few in
+      let k : c .stops ≤ length h = w .stands .filled .stopGuards .few in
+      omega arith
+
 -- ---- moves
 
 -- the first n rows are for all moves of the sheet
@@ -82,7 +105,7 @@ pub record MovesReady (n : ℕ) (m g sets : List (List ℕ)) (r : Sheet) : Type 
   pub counts : Counts
   pub stops : List (List ℕ)
   pub guards : List (List ℕ)
-  pub is : n ≡ min (counts .moves) 256
+  pub is : n ≡ min (min (min (counts .moves) 256) (length m)) (length g)
   pub ready : Ready counts m g stops guards sets r
 
 -- the rows of the first i moves, of n
@@ -97,7 +120,10 @@ add-move ms i v vs k line split judged q = rw (line, k, split) (MoveRows.next v 
 
 module _ {n : ℕ} {m g sets : List (List ℕ)} {r : Sheet} (w : MovesReady n m g sets r) where
   moves-count : n ≡ w .counts .moves
-  moves-count = let few = w .ready .stands .filled .moves .few in let is = w .is in omega arith
+  moves-count =
+      let few = w .ready .stands .few in
+      let is : n ≡ min (w .counts .moves) 256 = w .is ∙ guarded-moves (w .ready) in
+      omega arith
 
   moves-length : length (r .moves) ≡ n
   moves-length = rows-length (w .ready .stands .filled .moves .rows) ∙ sym moves-count
@@ -139,7 +165,7 @@ module _ {n : ℕ} {m g sets : List (List ℕ)} {room : List ℕ} {at : ℕ} whe
       → Laid (MovesReady n m g sets) (MovesUpto n) room at (i + 1) room″ next″
   moves-more {line = line} v l w h j = laid-more l (wrote-long w) (λ r p. (moveRow line v, λ vs q. one-move p v vs h (j .0) (j .1) q, w))
 
-  pub moves-all : {i : ℕ} {room′ : List ℕ} {next : ℕ} → Laid (MovesReady n m g sets) (MovesUpto n) room at i room′ next → n ≤ i → {c : Counts} → n ≡ min (c .moves) 256
+  pub moves-all : {i : ℕ} {room′ : List ℕ} {next : ℕ} → Laid (MovesReady n m g sets) (MovesUpto n) room at i room′ next → n ≤ i → {c : Counts} → n ≡ min (min (min (c .moves) 256) (length m)) (length g)
       → (t h : List (List ℕ)) (r : Sheet) → Ready c m g t h sets r → (vs : List ℕ) × MoveRows _≤_ r (r .moves) vs × Wrote room at vs room′ next
   moves-all l h {c} e stops guards r ready =
       let w : MovesReady n m g sets r = record { counts = c; stops = stops; guards = guards; is = e; ready = ready } in
@@ -158,31 +184,6 @@ pub record StatesReady (c : Counts) (m t h sets out : List (List ℕ)) (r : Shee
   pub ready : Ready c m guards t h sets r
   pub outward : Outward c m guards out
 
-module _ {c : Counts} {m t h sets out : List (List ℕ)} {room : List ℕ} {at : ℕ} where
-  pub states-none : length room ≤ limit → Laid (StatesReady c m t h sets out) StatesUpto room at 0 room at
-  unfolding StatesUpto
-  states-none l = laid-none l (λ r w. StateRows.none)
-
-  pub states-more : {q : ℕ} {room′ room″ : List ℕ} {next next″ : ℕ} → Laid (StatesReady c m t h sets out) StatesUpto room at q room′ next → length room″ ≡ length room′
-      → {leaves : List ℕ} (ends : List ℕ) {stopped named : List ℕ} → Marked leaves (λ q. rowAt m 1 q (min (c .moves) 256)) → Marked ends (λ q. rowAt m 4 q (min (c .moves) 256))
-      → Marked stopped (λ q. rowAt t 1 q (min (c .stops) 64))
-      → ((a b d : ℕ → Bool) → Marked leaves a → Marked ends b → Marked stopped d → Marked named (λ q. eqb q (c .start % 64) || (a q || (b q || d q))))
-      → ((m g : List (List ℕ)) (r : Sheet) → Ready c m g t h sets r → Told c m g t out leaves stopped named
-      → (vs : List ℕ) × ((before : List ℕ) → StateRows _≤_ r q before → StateRows _≤_ r (suc q) (before ++ vs)) × Wrote room′ next vs room″ next″)
-      → Laid (StatesReady c m t h sets out) StatesUpto room at (q + 1) room″ next″
-  unfolding StatesUpto
-  states-more {q} l e ends {named = named} left ended declared joined f =
-      let by-line : Marked named (namedAt c m t) =
-      joined (λ q. rowAt m 1 q (min (c .moves) 256)) (λ q. rowAt m 4 q (min (c .moves) 256)) (λ q. rowAt t 1 q (min (c .stops) 64)) left ended declared in
-      laid-more l e
-      (λ r w. let x = f m (w .guards) r (w .ready) (record { outward = w .outward; left = left; declared = declared; by-line = by-line }) in
-      (x .0, λ vs s. rw add-one (x .1 vs s), x .2))
-
-  pub states-all : {q : ℕ} {room′ : List ℕ} {next : ℕ} → Laid (StatesReady c m t h sets out) StatesUpto room at q room′ next → q ≡ 64
-      → (g : List (List ℕ)) (r : Sheet) → Ready c m g t h sets r → Outward c m g out → (vs : List ℕ) × StateRows _≤_ r 64 vs × Wrote room at vs room′ next
-  unfolding StatesUpto
-  states-all l e g r w o = let x = l .text r (record { guards = g; ready = w; outward = o }) in (x .0, rw e at (x .1), x .2)
-
 -- a mark is 1 where its test is true
 mark-told : {n : ℕ} (b : Bool) → n ≡ oneIf b → eqb n 1 ≡ b
 mark-told {n} true e = eq-eqb n 1 e
@@ -193,9 +194,9 @@ unmarked : {n : ℕ} (b : Bool) → n ≡ oneIf b → n ≡ 0 → b ≡ false
 unmarked true e z = absurd (omega arith)
 unmarked false e z = refl
 
-marked : {n : ℕ} (b : Bool) → n ≡ oneIf b → (n ≡ 0 → ⊥) → b ≡ true
+marked : {n : ℕ} (b : Bool) → n ≡ oneIf b → n ≡ 1 → b ≡ true
 marked true e z = refl
-marked false e z = absurd (z e)
+marked false e z = absurd (omega arith)
 
 -- where no stop line is for the state, none declares anything
 pub none-declared : (t h : List (List ℕ)) (q n : ℕ) {mark : ℕ} → mark ≡ 0 → mark ≡ oneIf (rowAt t 1 q n) → (p : ℕ) → p < 1024 → has (replicate 16 0) p ≡ guardsAt t h q p n
@@ -203,15 +204,7 @@ none-declared t h q n z e p lp = empty-has p ∙ sym (guards-none t h q p n (unm
 
 -- ---- which states are named
 
--- of the first i states each has in `named` what it has in one of the three
-pub record Joined (leaves ends stopped named : List ℕ) (i : ℕ) : Type 0 where
-  pub long : length named ≡ 64
-  pub is : (q : ℕ) → q < i → getD named q 0 ≡ bitOr (bitOr (getD leaves q 0) (getD ends q 0)) (getD stopped q 0)
-
-pub joined-none : {leaves ends stopped : List ℕ} → Joined leaves ends stopped (replicate 64 0) 0
-joined-none = record { long = refl; is = λ q h. absurd (omega arith) }
-
-one-or : (a b d : Bool) → bitOr (bitOr (oneIf a) (oneIf b)) (oneIf d) ≡ oneIf (a || (b || d))
+one-or : (a b d : Bool) → max (max (oneIf a) (oneIf b)) (oneIf d) ≡ oneIf (a || (b || d))
 one-or true true true = refl
 one-or true true false = refl
 one-or true false true = refl
@@ -221,51 +214,167 @@ one-or false true false = refl
 one-or false false true = refl
 one-or false false false = refl
 
-module _ {leaves ends stopped named : List ℕ} {i : ℕ} (j : Joined leaves ends stopped named i) where
-  pub joined-more : i < 64 → Joined leaves ends stopped (set named i (bitOr (bitOr (getD leaves i 0) (getD ends i 0)) (getD stopped i 0))) (i + 1)
-  joined-more l = record { long = simp length-set (j .long); is = λ q lq. at q lq (ℕ-discrete q i) }
-    where
-      at : (q : ℕ) → q < i + 1 → Dec (q ≡ i)
-          → getD (set named i (bitOr (bitOr (getD leaves i 0) (getD ends i 0)) (getD stopped i 0))) q 0 ≡ bitOr (bitOr (getD leaves q 0) (getD ends q 0)) (getD stopped q 0)
-      at q lq (yes e) = rw e (getD-set-same named i _ 0 (omega (arith, j .long)))
-      at q lq (no ne) = getD-set-other named i q _ 0 ne ∙ j .is q (omega arith)
+with-start : (k q : ℕ) (b : Bool) → max (oneIf b) (oneIf (eqb k q)) ≡ oneIf (eqb q k || b)
+with-start k q b = at b (ℕ-discrete q k)
+  where
+    at : (b : Bool) → Dec (q ≡ k) → max (oneIf b) (oneIf (eqb k q)) ≡ oneIf (eqb q k || b)
+    at true (yes e) = rw (eq-eqb q k e, eq-eqb k q (sym e)) refl
+    at false (yes e) = rw (eq-eqb q k e, eq-eqb k q (sym e)) refl
+    at true (no ne) = rw (ne-eqb q k ne, ne-eqb k q (λ e. ne (sym e))) refl
+    at false (no ne) = rw (ne-eqb q k ne, ne-eqb k q (λ e. ne (sym e))) refl
 
-  pub joined-all : 64 ≤ i → (start : ℕ) (a b d : ℕ → Bool) → Marked leaves a → Marked ends b → Marked stopped d
-      → Marked (set named (start % 64) 1) (λ q. eqb q (start % 64) || (a q || (b q || d q)))
-  joined-all l start a b d x y z q lq = at (ℕ-discrete q (start % 64))
-    where
-      at : Dec (q ≡ start % 64) → getD (set named (start % 64) 1) q 0 ≡ oneIf (eqb q (start % 64) || (a q || (b q || d q)))
-      at (yes e) = rw (eq-eqb q (start % 64) e) (ap (λ (k : ℕ). getD (set named (start % 64) 1) k 0) e ∙ getD-set-same named (start % 64) 1 0 (omega (arith, j .long)))
-      at (no ne) = rw (ne-eqb q (start % 64) ne) (getD-set-other named (start % 64) q 1 0 ne ∙ j .is q (omega arith) ∙ rw (x q lq, y q lq, z q lq) (one-or (a q) (b q) (d q)))
+-- the word of the marks of four kinds
+pub all-named : (start leaves ends stopped : ℕ) (a b d : ℕ → Bool) → Marked leaves a → Marked ends b → Marked stopped d
+    → Marked (bitOr (bitOr (bitOr leaves ends) stopped) (1 * 2 ^ (start % 64) % 2 ^ 64)) (λ q. eqb q (start % 64) || (a q || (b q || d q)))
+all-named start leaves ends stopped a b d x y z q lq =
+    let joined : bit (bitOr (bitOr leaves ends) stopped) q ≡ oneIf (a q || (b q || d q)) =
+    bit-or (bitOr leaves ends) stopped q ∙ ap (λ (n : ℕ). max n (bit stopped q)) (bit-or leaves ends q) ∙ rw (x q lq, y q lq, z q lq) (one-or (a q) (b q) (d q)) in
+    mark-one (bitOr (bitOr leaves ends) stopped) (start % 64) (omega arith) q lq ∙ ap (λ (n : ℕ). max n (oneIf (eqb (start % 64) q))) joined
+    ∙ with-start (start % 64) q (a q || (b q || d q))
 
--- the rows tell which states are named: the start of an accepted sheet is below 64
-named-told : {c : Counts} {m g t h sets : List (List ℕ)} {r : Sheet} (q : ℕ) → Ready c m g t h sets r → Tells (namedAt c m t q) (Named r q)
-named-told {c} q w =
-    let small : c .start % 64 ≡ c .start = omega (arith, w .accepted .start, w .stands .start) in
-    rw small (named-means (w .stands) q)
+-- whether a start, move or stop line names the state q, by the first k moves and the first n stop lines
+abbrev namedAt : Counts → List (List ℕ) → List (List ℕ) → ℕ → ℕ → ℕ → Bool
+namedAt c m t k n q = eqb q (c .start % 64) || (rowAt m 1 q k || (rowAt m 4 q k || rowAt t 1 q n))
 
--- one state: no row where no line names it, else its row
-module _ {c : Counts} {t h sets out : List (List ℕ)} {leaves stopped named : List ℕ} {q : ℕ} (lq : q < 64) where
-  pub state-passed : getD named q 0 ≡ 0 → {room : List ℕ} {at : ℕ} → length room ≤ limit
-      → (m g : List (List ℕ)) (r : Sheet) → Ready c m g t h sets r → Told c m g t out leaves stopped named
-      → (vs : List ℕ) × ((before : List ℕ) → StateRows _≤_ r q before → StateRows _≤_ r (suc q) (before ++ vs)) × Wrote room at vs room at
-  state-passed z l m g r w k = ([], λ before s. rw (append-nil before) (StateRows.other (named-told q w .not-so (unmarked (namedAt c m t q) (k .by-line q lq) z)) s), wrote-none l)
+-- the marks of the states that a move line leaves, that a stop line is for, and that any line names, by the rows that are there
+pub record Marks (c : Counts) (m t : List (List ℕ)) (leaves stopped named : ℕ) : Type 0 where
+  pub small : named < 2 ^ 64
+  pub left : Marked leaves (λ q. rowAt m 1 q (min (min (c .moves) 256) (length m)))
+  pub declared : Marked stopped (λ q. rowAt t 1 q (min (min (c .stops) 64) (length t)))
+  pub by-line : Marked named (namedAt c m t (min (min (c .moves) 256) (length m)) (min (min (c .stops) 64) (length t)))
 
-  pub state-laid : (v : StateVerdict) {k at next : ℕ} {room room′ : List ℕ} → Wrote room at (stateRow q v k) room′ next → k ≡ countTo (getD sets q []) 1024
-      → (getD named q 0 ≡ 0 → ⊥) → (declared : List ℕ)
-      → (getD stopped q 0 ≡ oneIf (rowAt t 1 q (min (c .stops) 64)) → (p : ℕ) → p < 1024 → has declared p ≡ guardsAt t h q p (min (c .stops) 64))
-      → StateSets (getD sets q []) (eqb (getD leaves q 0) 1) (getD out q []) declared v
-      → (m g : List (List ℕ)) (r : Sheet) → Ready c m g t h sets r → Told c m g t out leaves stopped named
-      → (vs : List ℕ) × ((before : List ℕ) → StateRows _≤_ r q before → StateRows _≤_ r (suc q) (before ++ vs)) × Wrote room at vs room′ next
-  state-laid v {k} l e f declared d x m g r w told = (
-    stateRow q v k,
-    λ before s.
-        StateRows.named {k = k} v (named-told q w .so (marked (namedAt c m t q) (told .by-line q lq) f))
-        (state-judged (w .accepted) (w .reaches) (w .stands) lq (getD out q []) (told .outward q lq) declared (d (told .declared q lq))
-        (mark-told (rowAt m 1 q (min (c .moves) 256)) (told .left q lq)) v x)
-        (rw e (count-judged (w .accepted) (w .reaches) lq)) s,
-    l,
-  )
+pub marks-are : {c : Counts} {m t : List (List ℕ)} {leaves : ℕ} (ends : ℕ) {stopped named : ℕ} → named < 2 ^ 64
+    → Marked leaves (λ q. rowAt m 1 q (min (min (c .moves) 256) (length m))) → Marked ends (λ q. rowAt m 4 q (min (min (c .moves) 256) (length m)))
+    → Marked stopped (λ q. rowAt t 1 q (min (min (c .stops) 64) (length t)))
+    → ((a b d : ℕ → Bool) → Marked leaves a → Marked ends b → Marked stopped d → Marked named (λ q. eqb q (c .start % 64) || (a q || (b q || d q))))
+    → Marks c m t leaves stopped named
+marks-are {c} {m} {t} ends small left ended declared joined =
+    record {
+      small = small;
+      left = left;
+      declared = declared;
+      by-line = joined (λ q. rowAt m 1 q (min (min (c .moves) 256) (length m))) (λ q. rowAt m 4 q (min (min (c .moves) 256) (length m)))
+          (λ q. rowAt t 1 q (min (min (c .stops) 64) (length t))) left ended declared;
+    }
+
+-- `rest` is the word of names without the states below q
+pub record Left (named q rest : ℕ) : Type 0 where
+  pub most : q ≤ 64
+  pub is : rest ≡ named / 2 ^ q
+
+pub left-all : {named : ℕ} → Left named 0 named
+left-all = record { most = omega arith; is = omega arith }
+
+module _ {named q rest : ℕ} (l : Left named q rest) where
+  -- where a state is left, q is one of the 64
+  pub left-small : named < 2 ^ 64 → (rest ≡ 0 → ⊥) → q < 64
+  left-small small some =
+      ⊎-elim
+      (λ (e : q ≡ 64).
+      let is : rest ≡ named / 2 ^ 64 = rw e at (l .is) in
+      absurd (some (is ∙ div-eq-of-lt small)))
+      (λ (k : q < 64). k)
+      (eq-or-lt-of-le (l .most))
+
+  pub left-next : q < 64 → Left named (q + 1) (rest / 2)
+  left-next k = record { most = omega arith; is = ap (λ (n : ℕ). n / 2) (l .is) ∙ shr-shr named q 1 }
+
+  -- bit j of what is left is the bit of the state q + j
+  left-bit : (j : ℕ) → bit named (q + j) ≡ bit rest j
+  left-bit j = ap (λ (n : ℕ). n % 2) (sym (shr-shr named q j)) ∙ ap (λ (n : ℕ). bit n j) (sym (l .is))
+
+  left-first : bit named q ≡ rest % 2
+  left-first = ap (λ (n : ℕ). n % 2) (sym (l .is))
+
+module _ {c : Counts} {m g t h sets : List (List ℕ)} {r : Sheet} (w : Ready c m g t h sets r) {leaves stopped named : ℕ} (k : Marks c m t leaves stopped named) where
+  marks-told : {out : List (List ℕ)} → Outward c m g out → Told c m g t out leaves stopped
+  marks-told o =
+      record {
+        outward = o;
+        left = λ q lq. k .left q lq ∙ ap (λ (n : ℕ). oneIf (rowAt m 1 q n)) (all-moves w);
+        declared = λ q lq. k .declared q lq ∙ ap (λ (n : ℕ). oneIf (rowAt t 1 q n)) (all-stops w);
+      }
+
+  -- the bits tell which states are named: the start of an accepted sheet is below 64
+  names-told : (q : ℕ) → Tells (namedAt c m t (min (min (c .moves) 256) (length m)) (min (min (c .stops) 64) (length t)) q) (Named r q)
+  names-told q =
+      let small : c .start % 64 ≡ c .start = omega (arith, w .accepted .start, w .stands .start) in
+      rw (small, all-moves w, all-stops w) (named-means (w .stands) q)
+
+  is-named : {q : ℕ} → q < 64 → bit named q ≡ 1 → Named r q
+  is-named {q} lq e = names-told q .so (marked (namedAt c m t (min (min (c .moves) 256) (length m)) (min (min (c .stops) 64) (length t)) q) (k .by-line q lq) e)
+
+  is-other : {q : ℕ} → q < 64 → bit named q ≡ 0 → Named r q → ⊥
+  is-other {q} lq e = names-told q .not-so (unmarked (namedAt c m t (min (min (c .moves) 256) (length m)) (min (min (c .stops) 64) (length t)) q) (k .by-line q lq) e)
+
+-- d states that no line names have no rows
+no-rows : {r : Sheet} {vs : List ℕ} (q d : ℕ) → StateRows _≤_ r q vs → ((j : ℕ) → j < d → Named r (q + j) → ⊥) → StateRows _≤_ r (q + d) vs
+no-rows q zero s f = let e : q + 0 ≡ q = omega arith in rw e s
+no-rows q (suc d) s f =
+    let e : q + suc d ≡ suc (q + d) = omega arith in
+    rw e (StateRows.other (f d (omega arith)) (no-rows q d s (λ j l. f j (omega arith))))
+
+-- ---- the loop over states
+
+module _ {c : Counts} {m t h sets out : List (List ℕ)} {room : List ℕ} {at : ℕ} where
+  pub states-none : length room ≤ limit → Laid (StatesReady c m t h sets out) StatesUpto room at 0 room at
+  unfolding StatesUpto
+  states-none l = laid-none l (λ r w. StateRows.none)
+
+  module _ {leaves stopped named q rest : ℕ} (k : Marks c m t leaves stopped named) (f : Left named q rest) {room′ : List ℕ} {next : ℕ}
+      (l : Laid (StatesReady c m t h sets out) StatesUpto room at q room′ next) where
+    -- no line names the state q
+    pub states-passed : {room″ : List ℕ} {next″ : ℕ} → room″ ≡ room′ → next″ ≡ next → (rest ≡ 0 → ⊥) → (rest % 2 ≡ 1 → ⊥)
+        → Laid (StatesReady c m t h sets out) StatesUpto room at (q + 1) room″ next″
+    unfolding StatesUpto
+    states-passed i j some z =
+        let lq = left-small f (k .small) some in
+        let e : bit named q ≡ 0 = omega (arith, left-first f) in
+        rw (i, j)
+        (record {
+          long = l .long;
+          text = λ r w. let x = l .text r w in (x .0, rw add-one (StateRows.other (is-other (w .ready) k lq e) (x .1)), x .2);
+        })
+
+    pub states-more : {room″ room‴ : List ℕ} {next″ next‴ : ℕ} → room‴ ≡ room″ → next‴ ≡ next″ → (rest ≡ 0 → ⊥) → rest % 2 ≡ 1 → length room″ ≡ length room′
+        → ((m g : List (List ℕ)) (r : Sheet) → Ready c m g t h sets r → Told c m g t out leaves stopped → Named r q
+        → (vs : List ℕ) × ((before : List ℕ) → StateRows _≤_ r q before → StateRows _≤_ r (suc q) (before ++ vs)) × Wrote room′ next vs room″ next″)
+        → Laid (StatesReady c m t h sets out) StatesUpto room at (q + 1) room‴ next‴
+    unfolding StatesUpto
+    states-more i j some o e put =
+        let lq = left-small f (k .small) some in
+        rw (i, j)
+        (laid-more l e
+        (λ r w. let x = put m (w .guards) r (w .ready) (marks-told (w .ready) k (w .outward)) (is-named (w .ready) k lq (left-first f ∙ o)) in
+        (x .0, λ vs s. rw add-one (x .1 vs s), x .2)))
+
+    pub states-all : rest ≡ 0 → (g : List (List ℕ)) (r : Sheet) → Ready c m g t h sets r → Outward c m g out
+        → (vs : List ℕ) × StateRows _≤_ r 64 vs × Wrote room at vs room′ next
+    unfolding StatesUpto
+    states-all z g r w o =
+        let x = l .text r (record { guards = g; ready = w; outward = o }) in
+        let most = f .most in
+        let e : q + (64 - q) ≡ 64 = omega arith in
+        let none : (j : ℕ) → bit rest j ≡ 0 = λ j. ap (λ (n : ℕ). bit n j) z ∙ zero-bit j in
+        (x .0, rw e at (no-rows q (64 - q) (x .1) (λ j lj. is-other w k (omega arith) (left-bit f j ∙ none j))), x .2)
+
+-- one named state's row
+pub state-laid : {c : Counts} {t h sets out : List (List ℕ)} {leaves stopped q : ℕ} → q < 64
+    → (v : StateVerdict) {k at next : ℕ} {room room′ : List ℕ} → Wrote room at (stateRow q v k) room′ next → k ≡ countTo (getD sets q []) 1024 → (declared : List ℕ)
+    → ((n : ℕ) → n ≡ min (min (min (c .stops) 64) (length t)) (length h) → bit stopped q ≡ oneIf (rowAt t 1 q n) → (p : ℕ) → p < 1024 → has declared p ≡ guardsAt t h q p n)
+    → StateSets (getD sets q []) (eqb (bit leaves q) 1) (getD out q []) declared v
+    → (m g : List (List ℕ)) (r : Sheet) → Ready c m g t h sets r → Told c m g t out leaves stopped → Named r q
+    → (vs : List ℕ) × ((before : List ℕ) → StateRows _≤_ r q before → StateRows _≤_ r (suc q) (before ++ vs)) × Wrote room at vs room′ next
+state-laid {c} {out = out} {q = q} lq v {k} l e declared d x m g r w told i = (
+  stateRow q v k,
+  λ before s.
+      StateRows.named {k = k} v i
+      (state-judged (w .accepted) (w .reaches) (w .stands) lq (getD out q []) (told .outward q lq) declared
+      (d (min (c .stops) 64) (sym (guarded-stops w)) (told .declared q lq))
+      (mark-told (rowAt m 1 q (min (c .moves) 256)) (told .left q lq)) v x)
+      (rw e (count-judged (w .accepted) (w .reaches) lq)) s,
+  l,
+)
 
 -- ---- stop lines
 
@@ -274,7 +383,7 @@ pub record StopsReady (n : ℕ) (t h sets out : List (List ℕ)) (r : Sheet) : T
   pub counts : Counts
   pub moves : List (List ℕ)
   pub guards : List (List ℕ)
-  pub is : n ≡ min (counts .stops) 64
+  pub is : n ≡ min (min (min (counts .stops) 64) (length t)) (length h)
   pub ready : Ready counts moves guards t h sets r
   pub outward : Outward counts moves guards out
 
@@ -290,7 +399,10 @@ add-stop ds i v vs k line split judged q = rw (line, k, split) (StopRows.next v 
 
 module _ {n : ℕ} {t h sets out : List (List ℕ)} {r : Sheet} (w : StopsReady n t h sets out r) where
   stops-count : n ≡ w .counts .stops
-  stops-count = let few = w .ready .stands .filled .stops .few in let is = w .is in omega arith
+  stops-count =
+      let few = w .ready .stands .stopsFew in
+      let is : n ≡ min (w .counts .stops) 64 = w .is ∙ guarded-stops (w .ready) in
+      omega arith
 
   no-stop : StopsUpto n 0 r []
   unfolding StopsUpto
@@ -327,7 +439,7 @@ module _ {n : ℕ} {t h sets out : List (List ℕ)} {room : List ℕ} {at : ℕ}
       → Laid (StopsReady n t h sets out) (StopsUpto n) room at (i + 1) room″ next″
   stops-more {i} v l w lt s = laid-more l (wrote-long w) (λ r p. (stopRow (getD (getD t i []) 0 0) v, λ vs q. one-stop p v vs lt s q, w))
 
-  pub stops-all : {i : ℕ} {room′ : List ℕ} {next : ℕ} → Laid (StopsReady n t h sets out) (StopsUpto n) room at i room′ next → n ≤ i → {c : Counts} → n ≡ min (c .stops) 64
+  pub stops-all : {i : ℕ} {room′ : List ℕ} {next : ℕ} → Laid (StopsReady n t h sets out) (StopsUpto n) room at i room′ next → n ≤ i → {c : Counts} → n ≡ min (min (min (c .stops) 64) (length t)) (length h)
       → (m g : List (List ℕ)) (r : Sheet) → Ready c m g t h sets r → Outward c m g out → (vs : List ℕ) × StopRows _≤_ r (r .stops) vs × Wrote room at vs room′ next
   unfolding StopsUpto
   stops-all {i} l k {c} e m g r w o =

@@ -1,12 +1,11 @@
 -- What `report` promises, for every sheet and every room. Assumes nothing: these are definitions.
-use mathlib.Core.Bool.{Bool, _||_}
+use mathlib.Core.Bool.{Bool}
 use mathlib.Core.List.{List, [], _++_}
 use mathlib.Core.Logic.{_⊎_}
 use mathlib.Core.Path.{_≡_}
-use Prim.Native.Nat.{ℕ, _%_, _≤_, _<_, min}
-use lib.Dec.{eqb}
+use Prim.Native.Nat.{ℕ, _≤_, _<_, min}
 use lib.ListN.{length, drop, getD}
-use Rattle.products.specs.Sets.{has, oneIf}
+use Rattle.products.specs.Sets.{bit, has, oneIf}
 use Rattle.sheet.specs.declared.Counts.{Counts}
 use Rattle.sheet.specs.Sheet.{Sheet}
 use Rattle.sheet.specs.Reading.{kept, refused, readSheet}
@@ -56,17 +55,12 @@ pub record Ready (c : Counts) (m g t h sets : List (List ℕ)) (r : Sheet) : Typ
 abbrev pub Outward : Counts → List (List ℕ) → List (List ℕ) → List (List ℕ) → Type 0
 Outward c m g out = (q : ℕ) → q < 64 → (p : ℕ) → p < 1024 → has (getD out q []) p ≡ guardsAt m g q p (min (c .moves) 256)
 
--- 1 or 0 for each state, by a test
-abbrev pub Marked : List ℕ → (ℕ → Bool) → Type 0
-Marked marks f = (q : ℕ) → q < 64 → getD marks q 0 ≡ oneIf (f q)
+-- bit q is 1 or 0 for each state q, by a test
+abbrev pub Marked : ℕ → (ℕ → Bool) → Type 0
+Marked marks f = (q : ℕ) → q < 64 → bit marks q ≡ oneIf (f q)
 
--- whether a start, move or stop line names the state q, by the rows
-abbrev pub namedAt : Counts → List (List ℕ) → List (List ℕ) → ℕ → Bool
-namedAt c m t q = eqb q (c .start % 64) || (rowAt m 1 q (min (c .moves) 256) || (rowAt m 4 q (min (c .moves) 256) || rowAt t 1 q (min (c .stops) 64)))
-
--- what one pass over the rows told of each state: `out`, and 1 or 0 for whether a move line leaves it, whether a stop line is for it, whether any line names it
-pub record Told (c : Counts) (m g t out : List (List ℕ)) (leaves stopped named : List ℕ) : Type 0 where
+-- what one pass over the rows told of each state: `out`, and the marks of those that a move line leaves and of those that a stop line is for
+pub record Told (c : Counts) (m g t out : List (List ℕ)) (leaves stopped : ℕ) : Type 0 where
   pub outward : Outward c m g out
   pub left : Marked leaves (λ q. rowAt m 1 q (min (c .moves) 256))
   pub declared : Marked stopped (λ q. rowAt t 1 q (min (c .stops) 64))
-  pub by-line : Marked named (namedAt c m t)

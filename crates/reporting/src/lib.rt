@@ -5,13 +5,14 @@ mod row;
 ghost use mathlib.Core.Path.{_≡_};
 ghost use mathlib.Core.Bool.{Bool, _||_};
 ghost use mathlib.Core.List.{List, _++_};
-ghost use Prim.Native.Nat.{ℕ, suc, _%_, _≤_, _<_, min};
+ghost use Prim.Native.Nat.{ℕ, suc, _*_, _%_, _≤_, _<_, min};
 ghost use lib.Dec.{eqb};
-ghost use lib.ListN.{getD};
+ghost use lib.ListN.{length, getD, replicate};
 ghost use Rattle.text.specs.Text.{Wrote};
-ghost use Rattle.products.specs.Sets.{has, oneIf};
+ghost use Rattle.products.specs.Sets.{bit, has, oneIf};
 ghost use Rattle.sheet.specs.Sheet.{Sheet};
 ghost use Rattle.sheet.specs.Reading.{kept, readSheet};
+ghost use Rattle.verdicts.specs.Verdicts.{Named};
 ghost use Rattle.verdicts.specs.Judging.{MoveSets, guardsAt, rowAt};
 ghost use Rattle.family.specs.Ways.{Depth};
 ghost use Rattle.reporting.specs.Report.{IsReport, MoveRows, StateRows, StopRows};
@@ -30,6 +31,9 @@ pub enum Answer {
     Refused { number: u8, line: usize },
 }
 
+// A text that is not longer has at most 32 move lines and 44 stop lines; for it `report` has small tables.
+const SHORT_TEXT: usize = 256;
+
 // The buffers, by the number of moves; nothing hangs on these but speed. A report of an accepted sheet is
 // never as long as OWN, and one of fewer moves than FEW seldom as long as SHORT.
 const FEW: usize = 32;
@@ -42,35 +46,72 @@ const OWN: usize = 12288;
 pub fn report(text: &[u8], room: &mut [u8]) -> Answer
     ensures { λ r. ⌜ ReportPromise (now (text .entry)) (now (room .entry)) (now (room .exit)) r ⌝ }
 {
-    let mut names = [[0usize; 2]; 10];
-    let mut valid = [0u64; 16];
+    if text.len() <= SHORT_TEXT {
+        let mut moves = [[0usize; 6]; 32];
+        let mut move_guards = [[0u64; 16]; 32];
+        let mut stops = [[0usize; 2]; 44];
+        let mut stop_guards = [[0u64; 16]; 44];
+        return report_by(
+            text,
+            room,
+            &mut moves,
+            &mut move_guards,
+            &mut stops,
+            &mut stop_guards,
+        );
+    }
     let mut moves = [[0usize; 6]; 256];
     let mut move_guards = [[0u64; 16]; 256];
     let mut stops = [[0usize; 2]; 64];
     let mut stop_guards = [[0u64; 16]; 64];
-    let r = sheet::read_blank(
+    report_by(
         text,
-        &mut names,
-        &mut valid,
+        room,
         &mut moves,
         &mut move_guards,
         &mut stops,
         &mut stop_guards,
+    )
+}
+
+// The same by way of tables that are blank and have rows enough for the text.
+fn report_by(
+    text: &[u8],
+    room: &mut [u8],
+    moves: &mut [[usize; 6]],
+    move_guards: &mut [[u64; 16]],
+    stops: &mut [[usize; 2]],
+    stop_guards: &mut [[u64; 16]],
+) -> Answer
+    requires { ⌜ (now moves ≡ replicate (length (now moves)) (replicate 6 0)) × (now «move_guards» ≡ replicate (length (now «move_guards»)) (replicate 16 0)) × (now stops ≡ replicate (length (now stops)) (replicate 2 0)) × (now «stop_guards» ≡ replicate (length (now «stop_guards»)) (replicate 16 0)) ⌝ }
+    requires { ⌜ (min (length (now text)) 2048 ≤ 8 * length (now moves)) × (min (length (now text)) 2048 ≤ 8 * length (now «move_guards»)) × (min (length (now text)) 384 ≤ 6 * length (now stops)) × (min (length (now text)) 384 ≤ 6 * length (now «stop_guards»)) ⌝ }
+    ensures { λ r. ⌜ ReportPromise (now (text .entry)) (now (room .entry)) (now (room .exit)) r ⌝ }
+{
+    let mut names = [[0usize; 2]; 10];
+    let mut valid = [0u64; 16];
+    let r = sheet::read_blank(
+        text,
+        &mut names,
+        &mut valid,
+        moves,
+        move_guards,
+        stops,
+        stop_guards,
     );
     let SheetRead::Kept(c) = r else {
         return pass_up(r);
     };
     let mut sets = [[0u64; 16]; 64];
-    let depth = family::spread(c.start, valid, c.moves, &moves, &move_guards, &mut sets);
+    let depth = family::spread(c.start, valid, c.moves, moves, move_guards, &mut sets);
     lay(
         room,
         c,
         depth,
         &sets,
-        &moves,
-        &move_guards,
-        &stops,
-        &stop_guards,
+        moves,
+        move_guards,
+        stops,
+        stop_guards,
     )
 }
 
@@ -80,10 +121,10 @@ fn lay(
     c: Counts,
     depth: usize,
     sets: &[[u64; 16]; 64],
-    moves: &[[usize; 6]; 256],
-    move_guards: &[[u64; 16]; 256],
-    stops: &[[usize; 2]; 64],
-    stop_guards: &[[u64; 16]; 64],
+    moves: &[[usize; 6]],
+    move_guards: &[[u64; 16]],
+    stops: &[[usize; 2]],
+    stop_guards: &[[u64; 16]],
 ) -> Answer
     ensures { λ a. ⌜ ((s : List ℕ) (r : Sheet) → readSheet s ≡ kept r → Ready c (now (moves .entry)) (now («move_guards» .entry)) (now (stops .entry)) (now («stop_guards» .entry)) (now (sets .entry)) r → Depth r depth → ReportPromise s (now (room .entry)) (now (room .exit)) a) ⌝ }
 {
@@ -123,10 +164,10 @@ fn lay_by(
     c: Counts,
     depth: usize,
     sets: &[[u64; 16]; 64],
-    moves: &[[usize; 6]; 256],
-    move_guards: &[[u64; 16]; 256],
-    stops: &[[usize; 2]; 64],
-    stop_guards: &[[u64; 16]; 64],
+    moves: &[[usize; 6]],
+    move_guards: &[[u64; 16]],
+    stops: &[[usize; 2]],
+    stop_guards: &[[u64; 16]],
 ) -> Answer
     ensures { λ a. ⌜ ((s : List ℕ) (r : Sheet) → readSheet s ≡ kept r → Ready c (now (moves .entry)) (now («move_guards» .entry)) (now (stops .entry)) (now («stop_guards» .entry)) (now (sets .entry)) r → Depth r depth → ReportPromise s (now (room .entry)) (now (room .exit)) a) ⌝ }
 {
@@ -164,10 +205,10 @@ fn put_report(
     c: Counts,
     depth: usize,
     sets: &[[u64; 16]; 64],
-    moves: &[[usize; 6]; 256],
-    move_guards: &[[u64; 16]; 256],
-    stops: &[[usize; 2]; 64],
-    stop_guards: &[[u64; 16]; 64],
+    moves: &[[usize; 6]],
+    move_guards: &[[u64; 16]],
+    stops: &[[usize; 2]],
+    stop_guards: &[[u64; 16]],
 ) -> usize
     ensures { λ n. ⌜ ((r : Sheet) → Ready c (now (moves .entry)) (now («move_guards» .entry)) (now (stops .entry)) (now («stop_guards» .entry)) (now (sets .entry)) r → Depth r depth → (vs : List ℕ) × IsReport _≤_ r vs × Wrote (now (room .entry)) 0 vs (now (room .exit)) n) ⌝ }
 {
@@ -185,12 +226,15 @@ fn put_moves(
     at: usize,
     c: Counts,
     sets: &[[u64; 16]; 64],
-    moves: &[[usize; 6]; 256],
-    move_guards: &[[u64; 16]; 256],
+    moves: &[[usize; 6]],
+    move_guards: &[[u64; 16]],
 ) -> usize
     ensures { λ n. ⌜ ((t h : List (List ℕ)) (r : Sheet) → Ready c (now (moves .entry)) (now («move_guards» .entry)) t h (now (sets .entry)) r → (vs : List ℕ) × MoveRows _≤_ r (r .moves) vs × Wrote (now (room .entry)) at vs (now (room .exit)) n) ⌝ }
 {
-    let n = counts::at_most(c.moves, 256);
+    let n = counts::at_most(
+        counts::at_most(counts::at_most(c.moves, 256), moves.len()),
+        move_guards.len(),
+    );
     let mut next = at;
     let mut i = 0;
     while i < n {
@@ -205,10 +249,10 @@ fn put_moves(
 fn move_at(
     i: usize,
     sets: &[[u64; 16]; 64],
-    moves: &[[usize; 6]; 256],
-    move_guards: &[[u64; 16]; 256],
+    moves: &[[usize; 6]],
+    move_guards: &[[u64; 16]],
 ) -> Judged
-    requires { ⌜ i < 256 ⌝ }
+    requires { ⌜ (i < length (now moves)) × (i < length (now «move_guards»)) ⌝ }
     ensures { λ j. ⌜ (j .line ≡ getD (getD (now (moves .entry)) i List.[]) 0 0) × MoveSets (getD (now (sets .entry)) (getD (getD (now (moves .entry)) i List.[]) 1 0 % 64) List.[]) (getD (now («move_guards» .entry)) i List.[]) (getD (getD (now (moves .entry)) i List.[]) 5 0) (j .verdict) ⌝ }
 {
     let row = moves[i];
@@ -216,59 +260,55 @@ fn move_at(
     verdicts::judge_move(row[0], sets[from], move_guards[i], row[5])
 }
 
-// The rows of all named states, rising.
+// The rows of all named states, rising: bit 0 of `named` is for the state q, and after the last named
+// state the word is 0.
 fn put_states(
     room: &mut [u8],
     at: usize,
     c: Counts,
     sets: &[[u64; 16]; 64],
     out: &[[u64; 16]; 64],
-    moves: &[[usize; 6]; 256],
-    stops: &[[usize; 2]; 64],
-    stop_guards: &[[u64; 16]; 64],
+    moves: &[[usize; 6]],
+    stops: &[[usize; 2]],
+    stop_guards: &[[u64; 16]],
 ) -> usize
     ensures { λ n. ⌜ ((g : List (List ℕ)) (r : Sheet) → Ready c (now (moves .entry)) g (now (stops .entry)) (now («stop_guards» .entry)) (now (sets .entry)) r → Outward c (now (moves .entry)) g (now (out .entry)) → (vs : List ℕ) × StateRows _≤_ r 64 vs × Wrote (now (room .entry)) at vs (now (room .exit)) n) ⌝ }
 {
     let leaves = verdicts::states_at(c.moves, moves, 1);
     let ends = verdicts::states_at(c.moves, moves, 4);
     let stopped = verdicts::stopped_states(c.stops, stops);
-    let named = named_states(c.start, &leaves, &ends, &stopped);
+    let mut named = named_word(c.start, leaves, ends, stopped);
     let mut next = at;
     let mut q = 0;
-    while q < 64 {
-        next = put_state_at(
-            room,
-            next,
-            q,
-            c,
-            sets,
-            out,
-            &leaves,
-            &stopped,
-            &named,
-            stops,
-            stop_guards,
-        );
+    while named != 0 {
+        if named % 2 == 1 {
+            next = put_state_at(
+                room,
+                next,
+                q,
+                c,
+                sets,
+                out,
+                leaves,
+                stopped,
+                stops,
+                stop_guards,
+            );
+        }
+        named = named / 2;
         q += 1;
     }
     next
 }
 
-// For each state 1 if a start, move or stop line names it, else 0.
-fn named_states(start: usize, leaves: &[u8; 64], ends: &[u8; 64], stopped: &[u8; 64]) -> [u8; 64]
-    ensures { λ r. ⌜ ((a b d : ℕ → Bool) → Marked (now (leaves .entry)) a → Marked (now (ends .entry)) b → Marked (now (stopped .entry)) d → Marked r (λ q. eqb q (start % 64) || (a q || (b q || d q)))) ⌝ }
+// Bit q is 1 if a start, move or stop line names the state q.
+fn named_word(start: usize, leaves: u64, ends: u64, stopped: u64) -> u64
+    ensures { λ r. ⌜ ((a b d : ℕ → Bool) → Marked leaves a → Marked ends b → Marked stopped d → Marked r (λ q. eqb q (start % 64) || (a q || (b q || d q)))) ⌝ }
 {
-    let mut named = [0u8; 64];
-    let mut i = 0;
-    while i < 64 {
-        named[i] = leaves[i] | ends[i] | stopped[i];
-        i += 1;
-    }
-    named[start % 64] = 1;
-    named
+    leaves | ends | stopped | (1 << (start % 64))
 }
 
-// The row of the state q, or nothing where no line names it.
+// The row of the state q, which a line names.
 fn put_state_at(
     room: &mut [u8],
     at: usize,
@@ -276,21 +316,17 @@ fn put_state_at(
     c: Counts,
     sets: &[[u64; 16]; 64],
     out: &[[u64; 16]; 64],
-    leaves: &[u8; 64],
-    stopped: &[u8; 64],
-    named: &[u8; 64],
-    stops: &[[usize; 2]; 64],
-    stop_guards: &[[u64; 16]; 64],
+    leaves: u64,
+    stopped: u64,
+    stops: &[[usize; 2]],
+    stop_guards: &[[u64; 16]],
 ) -> usize
     requires { ⌜ q < 64 ⌝ }
-    ensures { λ n. ⌜ ((m g : List (List ℕ)) (r : Sheet) → Ready c m g (now (stops .entry)) (now («stop_guards» .entry)) (now (sets .entry)) r → Told c m g (now (stops .entry)) (now (out .entry)) (now (leaves .entry)) (now (stopped .entry)) (now (named .entry)) → (vs : List ℕ) × ((before : List ℕ) → StateRows _≤_ r q before → StateRows _≤_ r (suc q) (before ++ vs)) × Wrote (now (room .entry)) at vs (now (room .exit)) n) ⌝ }
+    ensures { λ n. ⌜ ((m g : List (List ℕ)) (r : Sheet) → Ready c m g (now (stops .entry)) (now («stop_guards» .entry)) (now (sets .entry)) r → Told c m g (now (stops .entry)) (now (out .entry)) leaves stopped → Named r q → (vs : List ℕ) × ((before : List ℕ) → StateRows _≤_ r q before → StateRows _≤_ r (suc q) (before ++ vs)) × Wrote (now (room .entry)) at vs (now (room .exit)) n) ⌝ }
 {
-    if named[q] == 0 {
-        return at;
-    }
     let here = sets[q];
     let declared = declared_at(q, c.stops, stopped, stops, stop_guards);
-    let v = verdicts::judge_state(here, leaves[q] == 1, out[q], declared);
+    let v = verdicts::judge_state(here, (leaves >> q) % 2 == 1, out[q], declared);
     put_state(room, at, q, v, members::count(here))
 }
 
@@ -298,14 +334,14 @@ fn put_state_at(
 fn declared_at(
     q: usize,
     count: usize,
-    stopped: &[u8; 64],
-    stops: &[[usize; 2]; 64],
-    stop_guards: &[[u64; 16]; 64],
+    stopped: u64,
+    stops: &[[usize; 2]],
+    stop_guards: &[[u64; 16]],
 ) -> [u64; 16]
     requires { ⌜ q < 64 ⌝ }
-    ensures { λ r. ⌜ (getD (now (stopped .entry)) q 0 ≡ oneIf (rowAt (now (stops .entry)) 1 q (min count 64)) → (p : ℕ) → p < 1024 → has r p ≡ guardsAt (now (stops .entry)) (now («stop_guards» .entry)) q p (min count 64)) ⌝ }
+    ensures { λ r. ⌜ ((n : ℕ) → n ≡ min (min (min count 64) (length (now (stops .entry)))) (length (now («stop_guards» .entry))) → bit stopped q ≡ oneIf (rowAt (now (stops .entry)) 1 q n) → (p : ℕ) → p < 1024 → has r p ≡ guardsAt (now (stops .entry)) (now («stop_guards» .entry)) q p n) ⌝ }
 {
-    if stopped[q] == 0 {
+    if (stopped >> q) % 2 == 0 {
         return [0u64; 16];
     }
     verdicts::declared_at(q, count, stops, stop_guards)
@@ -318,12 +354,15 @@ fn put_stops(
     c: Counts,
     sets: &[[u64; 16]; 64],
     out: &[[u64; 16]; 64],
-    stops: &[[usize; 2]; 64],
-    stop_guards: &[[u64; 16]; 64],
+    stops: &[[usize; 2]],
+    stop_guards: &[[u64; 16]],
 ) -> usize
     ensures { λ n. ⌜ ((m g : List (List ℕ)) (r : Sheet) → Ready c m g (now (stops .entry)) (now («stop_guards» .entry)) (now (sets .entry)) r → Outward c m g (now (out .entry)) → (vs : List ℕ) × StopRows _≤_ r (r .stops) vs × Wrote (now (room .entry)) at vs (now (room .exit)) n) ⌝ }
 {
-    let n = counts::at_most(c.stops, 64);
+    let n = counts::at_most(
+        counts::at_most(counts::at_most(c.stops, 64), stops.len()),
+        stop_guards.len(),
+    );
     let mut next = at;
     let mut i = 0;
     while i < n {

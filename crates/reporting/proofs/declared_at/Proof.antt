@@ -5,10 +5,10 @@ use Rattle.reporting.proofs.declared_at.Statement.{statement}
 use Rattle.reporting.proofs.declared_at.Tie as tie
 
 returns : tie.Need-returns
-returns c = none-declared _ _ _ _ (c .if1 .taken)
+returns c = λ n e. none-declared _ _ _ n (c .if1 .taken)
 
 returns-2 : tie.Need-returns-2
-returns-2 c = λ e. c .declared-at .ensures
+returns-2 c = λ n e mark p lp. rw e (c .declared-at .ensures p lp)
 
 pub declared-at-spec : {M : Type 1} → statement M
 declared-at-spec =

@@ -1,38 +1,50 @@
--- `put_states` meets its contract: the rows laid so far are those of the named states below q. The measure is the number of states left.
--- Assumes nothing.
+-- `put_states` meets its contract: the rows laid so far are those of the named states below q, and `named` is the word of names without them. The
+-- measure is that word. Assumes nothing.
 use borrow.Author.Needs.{needs}
-use Prim.Native.Nat.{_≤_, _-_}
+use mathlib.Core.Logic.{⊎-elim}
 use native.Mathlib.Omega.{arith}
-use Rattle.reporting.proofs.Loops.{Laid, StatesReady, StatesUpto, states-none, states-more, states-all}
+use Rattle.reporting.proofs.Loops.{Laid, Marks, marks-are, Left, left-all, left-small, left-next, StatesReady, StatesUpto, states-none, states-passed, states-more, states-all}
 use Rattle.reporting.proofs.put_states.Statement.{statement}
 use Rattle.reporting.proofs.put_states.Tie as tie
 
 abbrev Inv-loop : tie.InvT-loop
-Inv-loop room₀ at c sets out moves stops stop-guards leaves stopped named next₀ q₀ room next q = (q ≤ 64) × Laid (StatesReady c moves stops stop-guards sets out) StatesUpto room₀ at q room next
+Inv-loop room₀ at c sets out moves stops stop-guards leaves ends stopped named₀ next₀ q₀ room named next q =
+    Marks c moves stops leaves stopped named₀ × Left named₀ q named × Laid (StatesReady c moves stops stop-guards sets out) StatesUpto room₀ at q room next
 
 abbrev μ-loop : tie.MeasureT-loop
-μ-loop room₀ at c sets out moves stops stop-guards leaves stopped named next₀ q₀ room next q = 64 - q
+μ-loop room₀ at c sets out moves stops stop-guards leaves ends stopped named₀ next₀ q₀ room named next q = named
 
 loop-holds : tie.Need-loop-holds Inv-loop μ-loop
-loop-holds c = (omega arith, states-none (search needs))
+loop-holds c = (marks-are (c .before .before .states-at2 .result) (search needs) (c .before .before .before .states-at .ensures) (c .before .before .states-at2 .ensures) (c .before .stopped-states .ensures) (c .named-word .ensures), left-all, states-none (search needs))
+
+put-state-at-requires : tie.Need-put-state-at-requires Inv-loop μ-loop
+put-state-at-requires c κs = left-small (c .before .before .before .loop .inv .1) (c .before .before .before .loop .inv .0 .small) (c .before .before .loop-test .taken)
+
+add-q : tie.Need-add-q Inv-loop μ-loop
+add-q c =
+    let small = left-small (c .before .before .loop .inv .1) (c .before .before .loop .inv .0 .small) (c .before .loop-test .taken) in
+    search needs
+
+loop-less : tie.Need-loop-less Inv-loop μ-loop
+loop-less c = let some = c .before .loop-test .taken in omega arith
 
 loop-again : tie.Need-loop-again Inv-loop μ-loop
-loop-again c = (
-  omega arith,
-  let turn = c .before .before .before .before .before .before .before .before in
-      let named = turn .before in
-      let stopped = named .before .before .before .before in
-      let ended = stopped .before in
-      let left = ended .before in
-      states-more (turn .loop .inv .1) (search needs) (ended .states-at2 .result) (left .states-at .ensures) (ended .states-at2 .ensures) (stopped .stopped-states .ensures) (named .named-states .ensures)
-      (c .before .before .put-state-at .ensures),
-)
+loop-again c =
+    let inv = c .before .before .loop .inv in
+    let some = c .before .loop-test .taken in (
+      inv .0,
+      left-next (inv .1) (left-small (inv .1) (inv .0 .small) some),
+      ⊎-elim
+          (λ w. states-more (inv .0) (inv .1) (inv .2) (w .5) (w .6) some (w .0 .taken) (search needs) (w .2 .ensures))
+          (λ w. states-passed (inv .0) (inv .1) (inv .2) (w .1) (w .2) some (w .0 .left))
+          (c .if1 .came),
+    )
 
 same-length : tie.Need-same-length Inv-loop μ-loop
-same-length c = c .before .loop .inv .1 .long
+same-length c = c .before .loop .inv .2 .long
 
 returns : tie.Need-returns Inv-loop μ-loop
-returns c = states-all (c .before .loop .inv .1) (omega arith)
+returns c = states-all (c .before .loop .inv .0) (c .before .loop .inv .1) (c .before .loop .inv .2) (c .loop-test .left)
 
 pub put-states-spec : {M : Type 1} → statement M
 put-states-spec =
@@ -45,9 +57,9 @@ put-states-spec =
     (λ c κs. search needs)
     (λ c κs. search needs)
     loop-holds
-    (λ c κs. search needs)
-    (λ c. search needs)
-    (λ c. search needs)
+    put-state-at-requires
+    add-q
+    loop-less
     loop-again
     same-length
     returns)

@@ -28,7 +28,7 @@ same-length : tie.Need-same-length Inv-loop μ-loop
 same-length c = c .before .loop .inv .1 .long
 
 returns : tie.Need-returns Inv-loop μ-loop
-returns c = stops-all (c .before .loop .inv .1) (omega arith) (c .before .before .at-most .ensures)
+returns c = stops-all (c .before .loop .inv .1) (omega arith) (omega arith)
 
 pub put-stops-spec : {M : Type 1} → statement M
 put-stops-spec =
@@ -36,6 +36,8 @@ put-stops-spec =
     (tie.spec
     Inv-loop
     μ-loop
+    (λ c κs. search needs)
+    (λ c κs. search needs)
     (λ c κs. search needs)
     loop-holds
     (λ c. search needs)

@@ -1,35 +1,35 @@
--- `report`: refused as the reader refuses, before the room is lent; or what `lay` leaves for the sheet that was read. Assumes nothing.
+-- `report`: the tables are blank, and have rows enough: 32 and 44 for a text of at most 256 bytes, 256 and 64 for every text. Assumes nothing.
 use borrow.Author.Needs.{needs}
-use mathlib.Core.Path.{refl}
-use mathlib.Core.Logic.{inl}
-use Rattle.reporting.proofs.Calls.{is-ready, is-depth}
+use Rattle.reporting.proofs.Calls.{lent-blank, enough-short, enough-any}
 use Rattle.reporting.proofs.report.Statement.{statement}
 use Rattle.reporting.proofs.report.Tie as tie
 
-returns : tie.Need-returns
-returns c =
-    let read = c .before .before .before in
-    let told = c .before .enum-told .given .1 in
-    rw (c .pass-up .ensures _ _ told) (refl, inl ((rw told at (read .read-blank .ensures)) .0))
+report-by-requires : tie.Need-report-by-requires
+report-by-requires c κs =
+    let short = c .before .before .before .before .before in
+    let start = short .before .before .before in
+    (lent-blank 32 44, enough-short (start .args .text .now) (short .if1 .taken))
 
-returns-2 : tie.Need-returns-2
-returns-2 c =
-    let spread = c .before .before .before .before .before .before .before .before .before in
-    let known = spread .before .before .before .before .before in
-    let read = known .before .before in
-    let got = rw (known .r .given .1) at (read .read-blank .ensures) in
-    c .before .before .lay .ensures _ (got .0) (got .1) (is-ready got (spread .spread .ensures)) (is-depth got (spread .spread .ensures))
+report-by-requires-2 : tie.Need-report-by-requires-2
+report-by-requires-2 c κs =
+    let start = c .before .before .before .before .before .before .before .before in
+    (lent-blank 256 64, enough-any (start .args .text .now))
 
 pub report-spec : {M : Type 1} → statement M
 report-spec =
     tie.close
     (tie.spec
-    (λ c κs. search needs)
     (λ c. search needs)
     (λ c. search needs)
-    (λ c κs. search needs)
-    returns
-    (λ c κs. search needs)
-    (λ c κs. search needs)
     (λ c. search needs)
-    returns-2)
+    (λ c. search needs)
+    report-by-requires
+    (λ c. search needs)
+    (λ c. search needs)
+    (λ c. search needs)
+    (λ c. search needs)
+    (λ c. search needs)
+    (λ c. search needs)
+    report-by-requires-2
+    (λ c. search needs)
+    (λ c. search needs))
