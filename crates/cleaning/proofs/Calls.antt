@@ -21,10 +21,12 @@ use Rattle.family.specs.Rounds.{stepAt, Spread}
 use Rattle.family.proofs.Meaning.{spread-reaches}
 use Rattle.splitting.specs.Splitting.{inSet, guardOf}
 use Rattle.ordering.specs.Ordering.{keyAt, MadeRow, Orders}
+use Rattle.ordering.proofs.Laws.{orders-low}
 use Rattle.normal.specs.Clean.{IsClean}
 use Rattle.normal.proofs.Unique.{is-clean-unique}
-use Rattle.cleaning.specs.Forms.{lineOf, linesOf, RowMove, StopsBelow, FormOf, Prepared}
+use Rattle.cleaning.specs.Forms.{lineOf, linesOf, RowMove, RowsWithin, StopsBelow, FormOf, Prepared}
 use Rattle.cleaning.specs.Promise.{TooLong, Cleaned}
+use Rattle.cleaning.proofs.Made.{rows-there}
 use Rattle.cleaning.proofs.Texts.{text-parts}
 use Rattle.cleaning.proofs.Established.{established}
 
@@ -48,7 +50,7 @@ pub whole-clean : {s valid order : List ℕ} {c : Counts} {ns moves guards sets 
     → Wrote d k (lineOf (startFields (c .start))) e m
     → (ms : List Move) × Rows (λ i m. RowMove s (min (c .features) 10) moves guards sets (getD order i 0 % 256) m) (min many 256) ms
     × Wrote e m (linesOf (moveRow (namesOf s ns (min (c .features) 10))) ms) f n
-    → (ds : List Stop) × StopsBelow (min (c .features) 10) moves guards sets (min (c .moves) 256) 64 ds
+    → (ds : List Stop) × StopsBelow (min (c .features) 10) moves guards sets (min (min (min (c .moves) 256) (length moves)) (length guards)) 64 ds
     × Wrote f n (linesOf (stopRow (namesOf s ns (min (c .features) 10))) ds) l′ o
     → (t h : List (List ℕ)) → (form : Sheet) × FormOf s c (tables ns valid moves guards t h) sets order many form × Wrote l 0 (textOf form) l′ o
 whole-clean {s} {valid} {c = c} {ns} u v w x (ms, rows, y) (ds, below, z) t h =
@@ -64,17 +66,22 @@ whole-clean {s} {valid} {c = c} {ns} u v w x (ms, rows, y) (ds, below, z) t h =
 -- the tables that were read, the states' sets and the ordered rows
 pub prepared : {s v first order : List ℕ} {ns m g t h sets : List (List ℕ)} {c : Counts} {depth many : ℕ}
     → (r : Sheet) × (readSheet s ≡ kept r) × StandsFor s (tables ns v m g t h) c r
-    → Spread (c .start % 64) v (stepAt m g) (min (c .moves) 256) sets depth
-    → Orders (keyAt s m) (MadeRow m g sets) (min (c .moves) 256) first order many → Prepared s c (tables ns v m g t h) sets order many
+    → Spread (c .start % 64) v (stepAt m g) (min (min (min (c .moves) 256) (length m)) (length g)) sets depth
+    → Orders (keyAt s m) (MadeRow m g sets) (min (min (min (c .moves) 256) (length m)) (length g)) first order many → Prepared s c (tables ns v m g t h) sets order many
 prepared {s} {first = first} (r, read, stands) spread orders =
     let ok = accepted s read in
     record {
       sheet = r;
       read = read;
-      ready = record { stands = stands; accepted = ok; reaches = spread-reaches stands ok spread };
+      ready = record { stands = stands; accepted = ok; reaches = spread-reaches stands ok (rw (rows-there stands) at spread) };
       first = first;
-      orders = orders;
+      orders = rw (rows-there stands) at orders;
     }
+
+-- the ordered rows are there
+pub within : {key : ℕ → List ℕ} {P : ℕ → Type 0} (count : ℕ) {many : ℕ} {m g : List (List ℕ)} {first order : List ℕ} → Orders key P (min (min (min count 256) (length m)) (length g)) first order many
+    → RowsWithin order many m g
+within count o = record { move = λ i l. omega (arith, orders-low o i l); guard = λ i l. omega (arith, orders-low o i l) }
 
 -- more than the smaller of two is more than one of them
 longer-than : (a b : ℕ) {n : ℕ} → min a b < n → (b < n) ⊎ (a < n)

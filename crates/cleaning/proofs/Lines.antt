@@ -119,9 +119,6 @@ module _ {here guard : List ℕ} (names : List (List ℕ)) {n : ℕ} (h : n ≤ 
 -- ---- the stop lines of a state
 
 module _ {here out : List ℕ} (names : List (List ℕ)) {n q : ℕ} {l : List ℕ} {at : ℕ} where
-  pub stop-idle : ((p : ℕ) → p < 1024 → has out p ≡ 0) → length l ≤ limit → (ds : List Stop) × StopAt n here out q ds × Wrote l at (linesOf (stopRow names) ds) l at
-  stop-idle none h = ([], StopAt.dead (λ p i. omega (arith, none p (i .first .small), i .second)), rw (lines-none (stopRow names)) (wrote-none h))
-
   pub stop-dead : (both : List ℕ) → ((p : ℕ) → p < 1024 → has both p ≡ min (has here p) (has out p)) → ((p : ℕ) → In both p → ⊥) → length l ≤ limit
       → (ds : List Stop) × StopAt n here out q ds × Wrote l at (linesOf (stopRow names) ds) l at
   stop-dead both b none h = ([], StopAt.dead (none-as (both-agree b) none), rw (lines-none (stopRow names)) (wrote-none h))

@@ -3,13 +3,16 @@
 use mathlib.Core.Path.{_≡_, refl, sym, ap, _∙_}
 use mathlib.Core.Bool.{Bool, true, false}
 use mathlib.Core.List.{List, [], _∷_, _++_}
-use Prim.Native.Nat.{ℕ, suc, _+_, _%_, _≤_, _<_, min}
+use mathlib.Core.Logic.{⊎-elim}
+use Prim.Native.Nat.{ℕ, zero, suc, _+_, _-_, _/_, _%_, _^_, _≤_, _<_, min}
+use native.Mathlib.Nat.{eq-or-lt-of-le, zero-div}
 use native.Mathlib.Numerals.{add-one}
 use native.Mathlib.Omega.{arith}
 use lib.ListN.{length, getD}
-use Rattle.products.specs.Sets.{has, oneIf}
+use lib.Pow.{shr-shr}
+use Rattle.products.specs.Sets.{bit, has, oneIf}
 use Rattle.text.specs.Text.{limit, Wrote}
-use Rattle.text.proofs.Laws.{wrote-none, wrote-then, wrote-long}
+use Rattle.text.proofs.Laws.{wrote-none, wrote-then}
 use Rattle.fields.specs.Bytes.{pieceOf}
 use Rattle.guards.specs.Guard.{Guard}
 use Rattle.guards.specs.Reading.{namesOf}
@@ -20,7 +23,6 @@ use Rattle.verdicts.specs.Judging.{guardsAt, rowAt}
 use Rattle.verdicts.proofs.Shown.{guards-none}
 use Rattle.cleaning.specs.Forms.{lineOf, linesOf, MadeGuard, RowMove, StopAt, StopsBelow}
 use Rattle.cleaning.proofs.Texts.{lines-none, lines-more, lines-append}
-use Rattle.cleaning.proofs.Lines.{wrote-as}
 
 -- ---- features
 
@@ -77,6 +79,23 @@ module _ {s : List ℕ} {names moves guards sets : List (List ℕ)} {order : Lis
 
 -- ---- stops
 
+-- a state that no move line leaves has no stop line
+idle : (moves guards : List (List ℕ)) (n count q : ℕ) (here out : List ℕ) → ((p : ℕ) → p < 1024 → has out p ≡ guardsAt moves guards q p count) → rowAt moves 1 q count ≡ false → StopAt n here out q []
+idle moves guards n count q here out o z = StopAt.dead (λ p i. omega (arith, o p (i .first .small), guards-none moves guards q p count z, i .second))
+
+-- nor have those from q on, if no move line leaves one of them
+rest-below : (moves guards sets : List (List ℕ)) (n count : ℕ) (out : ℕ → List ℕ) → ((q : ℕ) → q < 64 → (p : ℕ) → p < 1024 → has (out q) p ≡ guardsAt moves guards q p count)
+    → (k : ℕ) {q : ℕ} {ds : List Stop} → q ≤ k → k ≤ 64 → ((j : ℕ) → q ≤ j → j < 64 → rowAt moves 1 j count ≡ false)
+    → StopsBelow n moves guards sets count q ds → StopsBelow n moves guards sets count k ds
+rest-below moves guards sets n count out o zero {q} l h z b = let e : q ≡ 0 = omega arith in rw e at b
+rest-below moves guards sets n count out o (suc k) {q} l h z b =
+    ⊎-elim (λ (e : q ≡ suc k). rw e at b)
+    (λ (lt : q < suc k).
+    let lk : k < 64 = omega arith in
+    StopsBelow.next (out k) (o k lk) (idle moves guards n count k (getD sets k []) (out k) (o k lk) (z k (omega arith) lk))
+    (rest-below moves guards sets n count out o k (omega arith) (omega arith) z b))
+    (eq-or-lt-of-le l)
+
 -- the lines of the states below q were laid
 pub record StopsLaid (s : List ℕ) (names moves guards sets : List (List ℕ)) (n count : ℕ) (room : List ℕ) (at q : ℕ) (room′ : List ℕ) (place : ℕ) : Type 0 where
   pub made : List Stop
@@ -98,15 +117,49 @@ module _ {s : List ℕ} {names moves guards sets : List (List ℕ)} {n count : �
         laid = rw (lines-append (stopRow (namesOf s names n)) ds (l .made)) (wrote-then (l .laid) w);
       }
 
-  pub stops-all : {q : ℕ} {room′ : List ℕ} {place : ℕ} → StopsLaid s names moves guards sets n count room at q room′ place → q ≡ 64
-      → (ds : List Stop) × StopsBelow n moves guards sets count 64 ds × Wrote room at (linesOf (stopRow (namesOf s names n)) ds) room′ place
-  stops-all l e = (l .made, rw e at (l .below), l .laid)
+  pub stops-pass : {q : ℕ} {room′ : List ℕ} {place : ℕ} → StopsLaid s names moves guards sets n count room at q room′ place
+      → (out : List ℕ) → ((p : ℕ) → p < 1024 → has out p ≡ guardsAt moves guards q p count) → rowAt moves 1 q count ≡ false
+      → StopsLaid s names moves guards sets n count room at (q + 1) room′ place
+  stops-pass {q} l out o z =
+      record { made = l .made; below = rw add-one (StopsBelow.next out o (idle moves guards n count q (getD sets q []) out o z) (l .below)); laid = l .laid }
 
--- a state that no move line leaves has no guard
+  -- from the state q on no move line leaves a state
+  pub stops-all : {q : ℕ} {room′ : List ℕ} {place : ℕ} → StopsLaid s names moves guards sets n count room at q room′ place
+      → (out : ℕ → List ℕ) → ((q : ℕ) → q < 64 → (p : ℕ) → p < 1024 → has (out q) p ≡ guardsAt moves guards q p count)
+      → q ≤ 64 → ((j : ℕ) → q ≤ j → j < 64 → rowAt moves 1 j count ≡ false)
+      → (ds : List Stop) × StopsBelow n moves guards sets count 64 ds × Wrote room at (linesOf (stopRow (namesOf s names n)) ds) room′ place
+  stops-all l out o h z = (l .made, rest-below moves guards sets n count out o 64 h (omega arith) z (l .below), l .laid)
+
+-- ---- the marks of the states that a move line leaves, from state q on
+
 unmarked : (b : Bool) → oneIf b ≡ 0 → b ≡ false
 unmarked true e = absurd (omega arith)
 unmarked false e = refl
 
-pub out-none : (moves guards : List (List ℕ)) (q n : ℕ) (out : List ℕ) {m : ℕ} → m ≡ oneIf (rowAt moves 1 q n) → ((p : ℕ) → p < 1024 → has out p ≡ guardsAt moves guards q p n)
-    → m ≡ 0 → (p : ℕ) → p < 1024 → has out p ≡ 0
-out-none moves guards q n out e o z p l = o p l ∙ guards-none moves guards q p n (unmarked (rowAt moves 1 q n) (sym e ∙ z))
+-- `states_at` is asked for as many rows as there are guards
+pub marks-rows : (moves guards : List (List ℕ)) (count marks : ℕ) {rows : ℕ} → rows ≡ min count (length guards)
+    → ((j : ℕ) → j < 64 → bit marks j ≡ oneIf (rowAt moves 1 j (min (min rows 256) (length moves))))
+    → (j : ℕ) → j < 64 → bit marks j ≡ oneIf (rowAt moves 1 j (min (min (min count 256) (length moves)) (length guards)))
+marks-rows moves guards count marks {rows} e is j l =
+    let d : min (min rows 256) (length moves) ≡ min (min (min count 256) (length moves)) (length guards) = omega arith in
+    is j l ∙ ap (λ (n : ℕ). oneIf (rowAt moves 1 j n)) d
+
+module _ (marks q : ℕ) {left : ℕ} (e : left ≡ marks / 2 ^ q) where
+  -- a mark that is left is of a state
+  pub left-state : marks < 2 ^ 64 → q ≤ 64 → (left ≡ 0 → ⊥) → q < 64
+  left-state m l h = ⊎-elim (λ (d : q ≡ 64). absurd (h (e ∙ ap (λ (k : ℕ). marks / 2 ^ k) d ∙ omega arith))) (λ d. d) (eq-or-lt-of-le l)
+
+  pub left-next : left / 2 ≡ marks / 2 ^ (q + 1)
+  left-next = ap (λ (x : ℕ). x / 2) e ∙ shr-shr marks q 1
+
+  module _ (moves : List (List ℕ)) (count : ℕ) (is : (j : ℕ) → j < 64 → bit marks j ≡ oneIf (rowAt moves 1 j count)) where
+    pub left-even : q < 64 → (left % 2 ≡ 1 → ⊥) → rowAt moves 1 q count ≡ false
+    left-even l h =
+        let z : left % 2 ≡ 0 = omega arith in
+        unmarked (rowAt moves 1 q count) (sym (is q l) ∙ ap (λ (x : ℕ). x % 2) (sym e) ∙ z)
+
+    pub left-none : left ≡ 0 → (j : ℕ) → q ≤ j → j < 64 → rowAt moves 1 j count ≡ false
+    left-none z j l lj =
+        let d : q + (j - q) ≡ j = omega arith in
+        let h : marks / 2 ^ j ≡ 0 = ap (λ (k : ℕ). marks / 2 ^ k) (sym d) ∙ sym (shr-shr marks q (j - q)) ∙ ap (λ (x : ℕ). x / 2 ^ (j - q)) (sym e ∙ z) ∙ zero-div (2 ^ (j - q)) in
+        unmarked (rowAt moves 1 j count) (sym (is j lj) ∙ ap (λ (x : ℕ). x % 2) h)

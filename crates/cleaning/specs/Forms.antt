@@ -3,7 +3,7 @@ use mathlib.Core.Bool.{Bool, not, _&&_}
 use mathlib.Core.List.{List, [], _∷_, _++_}
 use mathlib.Core.Path.{_≡_}
 use Prim.Native.Nat.{ℕ, zero, suc, _%_, _<_, min}
-use lib.ListN.{getD}
+use lib.ListN.{length, getD}
 use Rattle.products.specs.Sets.{has}
 use Rattle.fields.specs.Bytes.{pieceOf}
 use Rattle.fields.specs.Cutting.{join}
@@ -44,6 +44,11 @@ pub record RowMove (s : List ℕ) (n : ℕ) (moves guards sets : List (List ℕ)
   pub to : m .to ≡ getD (getD moves k []) 4 0
   pub guard : MadeGuard n (getD sets (getD (getD moves k []) 1 0 % 64) []) (getD guards k []) (m .guard)
 
+-- the first `kept` rows of `order` are there in both tables
+pub record RowsWithin (order : List ℕ) (kept : ℕ) (moves guards : List (List ℕ)) : Type 0 where
+  pub move : (i : ℕ) → i < kept → getD order i 0 % 256 < length moves
+  pub guard : (i : ℕ) → i < kept → getD order i 0 % 256 < length guards
+
 -- ---- stops
 
 -- the stop lines of the state q, none or one: the products `here` reach it, and in those of `out` the guard of a move out of it holds
@@ -65,7 +70,7 @@ pub record FormOf (s : List ℕ) (c : Counts) (T : Tables) (sets : List (List �
   pub valid : f .valid ≡ guardOf 0 (min (c .features) 10) (inSet (T .valid))
   pub start : f .start ≡ c .start
   pub moves : Rows (λ i m. RowMove s (min (c .features) 10) (T .moves) (T .moveGuards) sets (getD order i 0 % 256) m) (min kept 256) (f .moves)
-  pub stops : StopsBelow (min (c .features) 10) (T .moves) (T .moveGuards) sets (min (c .moves) 256) 64 (f .stops)
+  pub stops : StopsBelow (min (c .features) 10) (T .moves) (T .moveGuards) sets (min (min (min (c .moves) 256) (length (T .moves))) (length (T .moveGuards))) 64 (f .stops)
 
 -- tables that stand for an accepted sheet, with the states' sets
 pub record Ready (s : List ℕ) (c : Counts) (T : Tables) (sets : List (List ℕ)) (r : Sheet) : Type 0 where

@@ -4,14 +4,14 @@ mod line;
 
 ghost use mathlib.Core.Path.{_≡_};
 ghost use mathlib.Core.List.{List};
-ghost use Prim.Native.Nat.{ℕ, _%_, min};
-ghost use lib.ListN.{getD};
+ghost use Prim.Native.Nat.{ℕ, _%_, _*_, _≤_, min};
+ghost use lib.ListN.{length, getD, replicate};
 ghost use Rattle.text.specs.Text.{Wrote};
 ghost use Rattle.guards.specs.Reading.{namesOf};
 ghost use Rattle.sheet.specs.Sheet.{Move, Stop, Sheet};
-ghost use Rattle.sheet.specs.Tables.{Rows, tables};
+ghost use Rattle.sheet.specs.Tables.{Rows, tables, blankTables};
 ghost use Rattle.sheet.specs.Spelling.{featureFields, moveRow, stopRow, textOf};
-ghost use Rattle.cleaning.specs.Forms.{linesOf, RowMove, StopsBelow, FormOf, Prepared};
+ghost use Rattle.cleaning.specs.Forms.{linesOf, RowMove, RowsWithin, StopsBelow, FormOf, Prepared};
 ghost use Rattle.cleaning.specs.Promise.{CleanPromise};
 use line::put_feature;
 use line::put_move;
@@ -37,40 +37,81 @@ const FEW: usize = 32;
 
 const SHORT: usize = 2048;
 
-// Lays the clean form of the sheet `text` into `room`.
+// A text of at most so many bytes has at most 32 moves and 44 stops.
+const SHORT_TEXT: usize = 256;
+
+// Lays the clean form of the sheet `text` into `room`, by way of tables that are small where the text is
+// short.
 pub fn clean(text: &[u8], room: &mut [u8]) -> Answer
     ensures { λ r. ⌜ CleanPromise (now (text .entry)) (now (room .entry)) (now (room .exit)) r ⌝ }
 {
-    let mut names = [[0usize; 2]; 10];
-    let mut valid = [0u64; 16];
+    if text.len() <= SHORT_TEXT {
+        let mut moves = [[0usize; 6]; 32];
+        let mut move_guards = [[0u64; 16]; 32];
+        let mut stops = [[0usize; 2]; 44];
+        let mut stop_guards = [[0u64; 16]; 44];
+        return clean_by(
+            text,
+            room,
+            &mut moves,
+            &mut move_guards,
+            &mut stops,
+            &mut stop_guards,
+        );
+    }
     let mut moves = [[0usize; 6]; 256];
     let mut move_guards = [[0u64; 16]; 256];
     let mut stops = [[0usize; 2]; 64];
     let mut stop_guards = [[0u64; 16]; 64];
-    let r = sheet::read_blank(
+    clean_by(
         text,
-        &mut names,
-        &mut valid,
+        room,
         &mut moves,
         &mut move_guards,
         &mut stops,
         &mut stop_guards,
+    )
+}
+
+// The clean sheet by way of tables that are blank and have rows enough for the text.
+fn clean_by(
+    text: &[u8],
+    room: &mut [u8],
+    moves: &mut [[usize; 6]],
+    move_guards: &mut [[u64; 16]],
+    stops: &mut [[usize; 2]],
+    stop_guards: &mut [[u64; 16]],
+) -> Answer
+    requires { ⌜ tables (replicate 10 (replicate 2 0)) (replicate 16 0) (now moves) (now «move_guards») (now stops) (now «stop_guards») ≡ blankTables (length (now moves)) (length (now «move_guards»)) (length (now stops)) (length (now «stop_guards»)) ⌝ }
+    requires { ⌜ (min (length (now text)) 2048 ≤ 8 * length (now moves)) × (min (length (now text)) 2048 ≤ 8 * length (now «move_guards»)) × (min (length (now text)) 384 ≤ 6 * length (now stops)) × (min (length (now text)) 384 ≤ 6 * length (now «stop_guards»)) ⌝ }
+    ensures { λ r. ⌜ CleanPromise (now (text .entry)) (now (room .entry)) (now (room .exit)) r ⌝ }
+{
+    let mut names = [[0usize; 2]; 10];
+    let mut valid = [0u64; 16];
+    let r = sheet::read_blank(
+        text,
+        &mut names,
+        &mut valid,
+        moves,
+        move_guards,
+        stops,
+        stop_guards,
     );
     let SheetRead::Kept(c) = r else {
         return pass_up(r);
     };
     let mut sets = [[0u64; 16]; 64];
-    family::spread(c.start, valid, c.moves, &moves, &move_guards, &mut sets);
+    family::spread(c.start, valid, c.moves, moves, move_guards, &mut sets);
     let mut order = [0usize; 256];
-    let kept = ordering::order_moves(text, c.moves, &moves, &move_guards, &sets, &mut order);
+    let kept = ordering::order_moves(text, c.moves, moves, move_guards, &sets, &mut order);
     lay(
         room,
         text,
         c,
         &names,
         valid,
-        &moves,
-        &move_guards,
+        moves,
+        move_guards,
         &sets,
         &order,
         kept,
@@ -85,12 +126,13 @@ fn lay(
     c: Counts,
     names: &[[usize; 2]; 10],
     valid: [u64; 16],
-    moves: &[[usize; 6]; 256],
-    guards: &[[u64; 16]; 256],
+    moves: &[[usize; 6]],
+    guards: &[[u64; 16]],
     sets: &[[u64; 16]; 64],
     rows: &[usize; 256],
     kept: usize,
 ) -> Answer
+    requires { ⌜ RowsWithin (now rows) kept (now moves) (now guards) ⌝ }
     ensures { λ r. ⌜ ((t h : List (List ℕ)) → Prepared (now (text .entry)) c (tables (now (names .entry)) valid (now (moves .entry)) (now (guards .entry)) t h) (now (sets .entry)) (now (rows .entry)) kept → CleanPromise (now (text .entry)) (now (room .entry)) (now (room .exit)) r) ⌝ }
 {
     if c.moves < FEW {
@@ -134,12 +176,13 @@ fn lay_by(
     c: Counts,
     names: &[[usize; 2]; 10],
     valid: [u64; 16],
-    moves: &[[usize; 6]; 256],
-    guards: &[[u64; 16]; 256],
+    moves: &[[usize; 6]],
+    guards: &[[u64; 16]],
     sets: &[[u64; 16]; 64],
     rows: &[usize; 256],
     kept: usize,
 ) -> Answer
+    requires { ⌜ RowsWithin (now rows) kept (now moves) (now guards) ⌝ }
     ensures { λ r. ⌜ ((t h : List (List ℕ)) → Prepared (now (text .entry)) c (tables (now (names .entry)) valid (now (moves .entry)) (now (guards .entry)) t h) (now (sets .entry)) (now (rows .entry)) kept → CleanPromise (now (text .entry)) (now (room .entry)) (now (room .exit)) r) ⌝ }
 {
     let n = put_clean(own, text, c, names, valid, moves, guards, sets, rows, kept);
@@ -177,12 +220,13 @@ fn put_clean(
     c: Counts,
     names: &[[usize; 2]; 10],
     valid: [u64; 16],
-    moves: &[[usize; 6]; 256],
-    guards: &[[u64; 16]; 256],
+    moves: &[[usize; 6]],
+    guards: &[[u64; 16]],
     sets: &[[u64; 16]; 64],
     order: &[usize; 256],
     kept: usize,
 ) -> usize
+    requires { ⌜ RowsWithin (now order) kept (now moves) (now guards) ⌝ }
     ensures { λ r. ⌜ ((t h : List (List ℕ)) → (f : Sheet) × FormOf (now (text .entry)) c (tables (now (names .entry)) valid (now (moves .entry)) (now (guards .entry)) t h) (now (sets .entry)) (now (order .entry)) kept f × Wrote (now (room .entry)) 0 (textOf f) (now (room .exit)) r) ⌝ }
 {
     let features = c.features;
@@ -225,19 +269,20 @@ fn put_features(
     next
 }
 
-// The lines of the kept moves, in their order.
+// The lines of the kept moves, in their order; the rows are there in both tables.
 fn put_moves(
     room: &mut [u8],
     at: usize,
     text: &[u8],
     names: &[[usize; 2]; 10],
     features: usize,
-    moves: &[[usize; 6]; 256],
-    guards: &[[u64; 16]; 256],
+    moves: &[[usize; 6]],
+    guards: &[[u64; 16]],
     sets: &[[u64; 16]; 64],
     order: &[usize; 256],
     kept: usize,
 ) -> usize
+    requires { ⌜ RowsWithin (now order) kept (now moves) (now guards) ⌝ }
     ensures { λ r. ⌜ ((ms : List Move) × Rows (λ i m. RowMove (now (text .entry)) (min features 10) (now (moves .entry)) (now (guards .entry)) (now (sets .entry)) (getD (now (order .entry)) i 0 % 256) m) (min kept 256) ms × Wrote (now (room .entry)) at (linesOf (moveRow (namesOf (now (text .entry)) (now (names .entry)) (min features 10))) ms) (now (room .exit)) r) ⌝ }
 {
     let n = counts::at_most(kept, 256);
@@ -262,7 +307,7 @@ fn put_moves(
     next
 }
 
-// The stop lines, by state.
+// The stop lines, by state, up to the last state that a move line leaves.
 fn put_stops(
     room: &mut [u8],
     at: usize,
@@ -270,29 +315,24 @@ fn put_stops(
     names: &[[usize; 2]; 10],
     features: usize,
     count: usize,
-    moves: &[[usize; 6]; 256],
-    guards: &[[u64; 16]; 256],
+    moves: &[[usize; 6]],
+    guards: &[[u64; 16]],
     sets: &[[u64; 16]; 64],
 ) -> usize
-    ensures { λ r. ⌜ ((ds : List Stop) × StopsBelow (min features 10) (now (moves .entry)) (now (guards .entry)) (now (sets .entry)) (min count 256) 64 ds × Wrote (now (room .entry)) at (linesOf (stopRow (namesOf (now (text .entry)) (now (names .entry)) (min features 10))) ds) (now (room .exit)) r) ⌝ }
+    ensures { λ r. ⌜ ((ds : List Stop) × StopsBelow (min features 10) (now (moves .entry)) (now (guards .entry)) (now (sets .entry)) (min (min (min count 256) (length (now (moves .entry)))) (length (now (guards .entry)))) 64 ds × Wrote (now (room .entry)) at (linesOf (stopRow (namesOf (now (text .entry)) (now (names .entry)) (min features 10))) ds) (now (room .exit)) r) ⌝ }
 {
     let mut out = [[0u64; 16]; 64];
     verdicts::all_out(count, moves, guards, &mut out);
-    let leaves = verdicts::states_at(count, moves, 1);
+    let rows = counts::at_most(count, guards.len());
+    let leaves = verdicts::states_at(rows, moves, 1);
     let mut next = at;
+    let mut left = leaves;
     let mut q = 0;
-    while q < 64 {
-        next = put_stop(
-            room,
-            next,
-            text,
-            names,
-            features,
-            q,
-            leaves[q],
-            sets[q],
-            out[q],
-        );
+    while left != 0 {
+        if left % 2 == 1 {
+            next = put_stop(room, next, text, names, features, q, sets[q], out[q]);
+        }
+        left = left / 2;
         q += 1;
     }
     next

@@ -1,10 +1,8 @@
 // The clean sheet's lines, each laid at a place; the answer is the next place. Fixed parts carry their
 // tabs.
-ghost use mathlib.Core.Path.{_≡_};
 ghost use mathlib.Core.List.{List};
-ghost use Prim.Native.Nat.{ℕ, _<_, min};
+ghost use Prim.Native.Nat.{min};
 ghost use lib.ListN.{getD};
-ghost use Rattle.products.specs.Sets.{has};
 ghost use Rattle.text.specs.Text.{Wrote};
 ghost use Rattle.fields.specs.Bytes.{pieceOf};
 ghost use Rattle.guards.specs.Guard.{Guard, print};
@@ -94,8 +92,7 @@ fn put_made(
     splitting::put_guard(room, at, text, names, features, products::both(here, guard))
 }
 
-// The stop line of q, where a move out of it is kept and some product reaches it and makes none; `leaves`
-// is 0 if no move line leaves q.
+// The stop line of q, where a move out of it is kept and some product reaches it and makes none.
 pub(crate) fn put_stop(
     room: &mut [u8],
     at: usize,
@@ -103,15 +100,11 @@ pub(crate) fn put_stop(
     names: &[[usize; 2]; 10],
     features: usize,
     q: usize,
-    leaves: u8,
     here: [u64; 16],
     out: [u64; 16],
 ) -> usize
-    ensures { λ r. ⌜ ((leaves ≡ 0 → (p : ℕ) → p < 1024 → has out p ≡ 0) → (ds : List Stop) × StopAt (min features 10) here out q ds × Wrote (now (room .entry)) at (linesOf (stopRow (namesOf (now (text .entry)) (now (names .entry)) (min features 10))) ds) (now (room .exit)) r) ⌝ }
+    ensures { λ r. ⌜ ((ds : List Stop) × StopAt (min features 10) here out q ds × Wrote (now (room .entry)) at (linesOf (stopRow (namesOf (now (text .entry)) (now (names .entry)) (min features 10))) ds) (now (room .exit)) r) ⌝ }
 {
-    if leaves == 0 {
-        return at;
-    }
     if members::is_empty(products::both(here, out)) {
         return at;
     }

@@ -1,36 +1,31 @@
--- `clean`: refused as the reader refuses, before the room is lent; or what `lay` leaves, for the sheet that was read. Assumes nothing.
+-- `clean`: what `clean_by` leaves with either tables; 32 and 44 rows are enough for 256 bytes, 256 and 64 for every text. Assumes nothing.
 use mathlib.Core.Path.{refl}
-use mathlib.Core.Logic.{inl}
-use Rattle.cleaning.proofs.Calls.{prepared}
+use native.Mathlib.Omega.{arith}
 use borrow.Author.Needs.{needs}
 use Rattle.cleaning.proofs.clean.Statement.{statement}
 use Rattle.cleaning.proofs.clean.Tie as tie
 
-returns : tie.Need-returns
-returns c =
-    let told = c .before .enum-told .given .1 in
-    rw (c .pass-up .ensures _ _ told) (refl, inl ((rw told at (c .before .before .before .read-blank .ensures)) .0))
+clean-by-requires : tie.Need-clean-by-requires
+clean-by-requires c κs = let short = c .before .before .before .before .before .if1 .taken in (refl, (omega arith, omega arith, omega arith, omega arith))
 
-returns-2 : tie.Need-returns-2
-returns-2 c =
-    let laid = c .before .before in
-    let ordered = laid .before .before .before .before .before .before .before in
-    let spread = ordered .before .before .before .before .before in
-    let known = spread .before .before .before .before .before in
-    let read = known .before .before in
-    laid .lay .ensures _ _ (prepared (rw (known .r .given .1) at (read .read-blank .ensures)) (spread .spread .ensures) (ordered .order-moves .ensures))
+clean-by-requires-2 : tie.Need-clean-by-requires-2
+clean-by-requires-2 c κs = (refl, (omega arith, omega arith, omega arith, omega arith))
 
 pub clean-spec : {M : Type 1} → statement M
 clean-spec =
     tie.close
     (tie.spec
-    (λ c κs. search needs)
     (λ c. search needs)
     (λ c. search needs)
-    (λ c κs. search needs)
-    returns
-    (λ c κs. search needs)
-    (λ c κs. search needs)
-    (λ c κs. search needs)
     (λ c. search needs)
-    returns-2)
+    (λ c. search needs)
+    clean-by-requires
+    (λ c. search needs)
+    (λ c. search needs)
+    (λ c. search needs)
+    (λ c. search needs)
+    (λ c. search needs)
+    (λ c. search needs)
+    clean-by-requires-2
+    (λ c. search needs)
+    (λ c. search needs))

@@ -3,6 +3,12 @@ use borrow.Author.Needs.{needs}
 use Rattle.cleaning.proofs.lay.Statement.{statement}
 use Rattle.cleaning.proofs.lay.Tie as tie
 
+lay-by-requires : tie.Need-lay-by-requires
+lay-by-requires c κs = c .before .before .before .before .before .before .pre
+
+lay-by-requires-2 : tie.Need-lay-by-requires-2
+lay-by-requires-2 c κs = c .before .before .before .before .before .before .pre
+
 returns : tie.Need-returns
 returns c = c .before .before .before .lay-by .ensures
 
@@ -14,10 +20,10 @@ lay-spec =
     tie.close
     (tie.spec
     (λ c. search needs)
-    (λ c κs. search needs)
+    lay-by-requires
     (λ c. search needs)
     returns
     (λ c. search needs)
-    (λ c κs. search needs)
+    lay-by-requires-2
     (λ c. search needs)
     returns-2)

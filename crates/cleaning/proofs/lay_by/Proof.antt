@@ -4,6 +4,12 @@ use borrow.Author.Needs.{needs}
 use Rattle.cleaning.proofs.lay_by.Statement.{statement}
 use Rattle.cleaning.proofs.lay_by.Tie as tie
 
+put-clean-requires : tie.Need-put-clean-requires
+put-clean-requires c κs = c .before .before .before .before .pre
+
+put-clean-requires-2 : tie.Need-put-clean-requires-2
+put-clean-requires-2 c κs = c .before .before .before .before .before .before .before .before .before .before .before .pre
+
 returns : tie.Need-returns
 returns c = λ t h p.
     let test = c .before in
@@ -32,7 +38,7 @@ pub lay-by-spec : {M : Type 1} → statement M
 lay-by-spec =
     tie.close
     (tie.spec
-    (λ c κs. search needs)
+    put-clean-requires
     (λ c κs. search needs)
     (λ c κs. search needs)
     (λ c. search needs)
@@ -44,7 +50,7 @@ lay-by-spec =
     (λ c. search needs)
     (λ c. search needs)
     returns-2
-    (λ c κs. search needs)
+    put-clean-requires-2
     (λ c. search needs)
     (λ c. search needs)
     returns-3)

@@ -6,6 +6,9 @@ use borrow.Author.Needs.{needs}
 use Rattle.cleaning.proofs.put_clean.Statement.{statement}
 use Rattle.cleaning.proofs.put_clean.Tie as tie
 
+put-moves-requires : tie.Need-put-moves-requires
+put-moves-requires c κs = c .before .before .before .before .before .before .before .before .before .before .before .before .before .before .before .before .before .before .before .before .pre
+
 returns : tie.Need-returns
 returns c =
     let stops = c .before .before in
@@ -28,7 +31,7 @@ put-clean-spec =
     (λ c κs. search needs)
     (λ c κs. search needs)
     (λ c κs. search needs)
-    (λ c κs. search needs)
+    put-moves-requires
     (λ c κs. search needs)
     same-length
     returns)

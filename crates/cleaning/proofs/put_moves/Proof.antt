@@ -18,6 +18,12 @@ abbrev μ-loop : tie.MeasureT-loop
 loop-holds : tie.Need-loop-holds Inv-loop μ-loop
 loop-holds c = (omega arith, moves-none (search needs))
 
+shared-slice-copy-out-row : tie.Need-shared-slice-copy-out-row Inv-loop μ-loop
+shared-slice-copy-out-row c = omega (arith, c .before .before .before .before .before .before .pre .move (c .before .before .loop .i) (omega arith))
+
+shared-slice-copy-out-put-move : tie.Need-shared-slice-copy-out-put-move Inv-loop μ-loop
+shared-slice-copy-out-put-move c = omega (arith, c .before .before .before .before .before .before .before .before .before .pre .guard (c .before .before .before .before .before .loop .i) (omega arith))
+
 loop-again : tie.Need-loop-again Inv-loop μ-loop
 loop-again c = (omega arith, moves-more (c .before .before .before .before .before .before .before .before .before .loop .inv .1) refl (c .before .before .put-move .ensures))
 
@@ -38,12 +44,12 @@ put-moves-spec =
     (λ c. search needs)
     (λ c. search needs)
     (λ c. search needs)
+    shared-slice-copy-out-row
     (λ c. search needs)
     (λ c. search needs)
     (λ c. search needs)
     (λ c. search needs)
-    (λ c. search needs)
-    (λ c. search needs)
+    shared-slice-copy-out-put-move
     (λ c κs. search needs)
     (λ c. search needs)
     (λ c. search needs)
