@@ -1,7 +1,6 @@
 -- Laws of the bits of a word: of the operations on words, of the words that stand for a feature and for all products of n features, and how
--- many there are. A table's rule is one computed test over its 64 bits. Assumes nothing.
-use mathlib.Core.Path.{_≡_, sym, ap, ap₂, _∙_}
-use mathlib.Core.List.{List, [], _∷_}
+-- many there are. The rule of a word of the code is one computed test over its 64 bits. Assumes nothing.
+use mathlib.Core.Path.{_≡_, refl, sym, ap, ap₂, _∙_}
 use mathlib.Core.Bool.{Bool, true, false, _&&_}
 use Prim.Native.Nat.{ℕ, zero, suc, _+_, _-_, _*_, _/_, _%_, _^_, _<_, _≤_, min, max}
 use native.Mathlib.Omega.{arith}
@@ -12,7 +11,6 @@ use borrow.Author.Tests.{lt-ltb, le-ltb}
 use lib.Bits.{bitAnd, bitOr, bitXor, and-shr, or-shr, xor-shr, and-step, or-step, xor-add-and}
 use lib.Count.{ones, ones-step, ones-le}
 use lib.Dec.{T, eqb, ltb, eqb→eq}
-use lib.ListN.{getD}
 use lib.Pow.{pow-add, pow-mono, pow-pos, shr-shr}
 use Rattle.products.specs.Sets.{bit, oneIf}
 
@@ -63,10 +61,10 @@ eq-bits (suc k) x y lx ly h =
 pub zero-bit : (k : ℕ) → bit 0 k ≡ 0
 zero-bit k = ap (λ (n : ℕ). n % 2) (zero-div (2 ^ k))
 
--- ---- tables
+-- ---- words of the code
 
 -- the test f passes at each number below n
-passes : (ℕ → Bool) → ℕ → Bool
+unfoldable pub passes : (ℕ → Bool) → ℕ → Bool
 passes f zero = true
 passes f (suc n) = f n && passes f n
 
@@ -78,76 +76,51 @@ and-right : (a b : Bool) → T (a && b) → T b
 and-right true b t = t
 and-right false b t = absurd t
 
-passes-at : (f : ℕ → Bool) (n : ℕ) → T (passes f n) → (k : ℕ) → k < n → T (f k)
+pub passes-at : (f : ℕ → Bool) (n : ℕ) → T (passes f n) → (k : ℕ) → k < n → T (f k)
 unfolding passes
 passes-at f zero t k lt = below-none (λ k. T (f k)) k lt
 passes-at f (suc n) t k lt =
     below-more (λ k. T (f k)) n (passes-at f n (and-right (f n) (passes f n) t)) (and-left (f n) (passes f n) t) k (rw add-one lt)
 
--- a table of n words, whose bits a computed test compares with f, has the bits that f says
-table-bit : (t : List ℕ) (f : ℕ → ℕ → ℕ) (n : ℕ) → T (passes (λ i. passes (λ k. eqb (bit (getD t i 0) k) (f i k)) 64) n)
-    → (i k : ℕ) → i < n → k < 64 → bit (getD t i 0) k ≡ f i k
-table-bit t f n test i k li lk =
-    eqb→eq (bit (getD t i 0) k) (f i k)
-    (passes-at (λ k. eqb (bit (getD t i 0) k) (f i k)) 64 (passes-at (λ i. passes (λ k. eqb (bit (getD t i 0) k) (f i k)) 64) n test i li) k lk)
-
--- the masks of the code
-abbrev masks : List ℕ
-masks =
-    0xaaaa_aaaa_aaaa_aaaa ∷ 0xcccc_cccc_cccc_cccc ∷ 0xf0f0_f0f0_f0f0_f0f0 ∷ 0xff00_ff00_ff00_ff00 ∷ 0xffff_0000_ffff_0000 ∷ 0xffff_ffff_0000_0000 ∷ []
-
-mask-bit : (i k : ℕ) → i < 6 → k < 64 → bit (getD masks i 0) k ≡ bit k i
-unfolding passes
-mask-bit = table-bit masks (λ i k. bit k i) 6 tt
-
--- the first words of the code
-abbrev firsts : List ℕ
-firsts = 0x1 ∷ 0x3 ∷ 0xf ∷ 0xff ∷ 0xffff ∷ 0xffff_ffff ∷ []
-
-first-bit : (n k : ℕ) → n < 6 → k < 64 → bit (getD firsts n 0) k ≡ oneIf (ltb k (2 ^ n))
-unfolding passes
-first-bit = table-bit firsts (λ n k. oneIf (ltb k (2 ^ n))) 6 tt
+-- a word of the code for the number n, whose bits a computed test compares with those that f says
+word-at : (f : ℕ → ℕ → ℕ) (x n : ℕ) {i : ℕ} → T (passes (λ k. eqb (bit x k) (f n k)) 64) → i ≡ n → (k : ℕ) → k < 64 → bit x k ≡ f i k
+word-at f x n test e k lk = rw e (eqb→eq (bit x k) (f n k) (passes-at (λ k. eqb (bit x k) (f n k)) 64 test k lk))
 
 -- every bit of the full word is 1
 pub ones-bit : (k : ℕ) → k < 64 → bit 0xffff_ffff_ffff_ffff k ≡ 1
 unfolding passes
-ones-bit k = table-bit (0xffff_ffff_ffff_ffff ∷ []) (λ i k. 1) 1 tt 0 k (omega arith)
+ones-bit = word-at (λ n k. 1) 0xffff_ffff_ffff_ffff 0 tt refl
 
--- ---- word w of a feature's set: one law for each answer
+-- ---- the words of a feature's set
 
-low-bits : (w k i : ℕ) → i < 6 → bit (w * 64 + k) i ≡ bit k i
+-- a mask has the numbers that have bit n
+pub mask-bit : (x n : ℕ) {i : ℕ} → T (passes (λ k. eqb (bit x k) (bit k n)) 64) → i ≡ n → (k : ℕ) → k < 64 → bit x k ≡ bit k i
+mask-bit = word-at (λ i k. bit k i)
+
+-- no number below 2 ^ j has a bit from j on
+pub past-bit : (j i : ℕ) → j ≤ i → (k : ℕ) → k < 2 ^ j → bit k i ≡ 0
+past-bit j i le k lk = ap (λ (n : ℕ). n % 2) (div-eq-of-lt {n = k} {m = 2 ^ i} (omega (arith, pow-mono {i = j} {j = i} le)))
+
+-- below 6 a product's bit is that of its place in its word
+pub low-bits : (w k i : ℕ) → i < 6 → bit (w * 64 + k) i ≡ bit k i
 low-bits w k =
     let P : ℕ → Type 0 = λ i. bit (w * 64 + k) i ≡ bit k i in
     below-more P 5 (below-more P 4 (below-more P 3 (below-more P 2 (below-more P 1 (below-more P 0 (below-none P)
     (omega arith)) (omega arith)) (omega arith)) (omega arith)) (omega arith)) (omega arith)
 
-high-bits : (w k i : ℕ) → k < 64 → 6 ≤ i → bit (w * 64 + k) i ≡ bit w (i - 6)
-high-bits w k i lk le =
-    let e : 6 + (i - 6) ≡ i = omega arith in
-    let d : (w * 64 + k) / 2 ^ 6 ≡ w = omega arith in
-    let h : bit ((w * 64 + k) / 2 ^ 6) (i - 6) ≡ bit (w * 64 + k) (6 + (i - 6)) = ap (λ (n : ℕ). n % 2) (shr-shr (w * 64 + k) 6 (i - 6)) in
-    sym (rw e at (rw d at h))
-
-module _ (i w : ℕ) where
-  pub mask-feature : i < 6 → (k : ℕ) → k < 64 → bit (getD masks i 0) k ≡ bit (w * 64 + k) i
-  mask-feature li k lk = mask-bit i k li lk ∙ sym (low-bits w k i li)
-
-  pub no-feature : w < 16 → 10 ≤ i → (k : ℕ) → k < 64 → bit 0 k ≡ bit (w * 64 + k) i
-  no-feature lw le k lk =
-      zero-bit k ∙ sym (ap (λ (n : ℕ). n % 2) (div-eq-of-lt {n = w * 64 + k} {m = 2 ^ i} (omega (arith, pow-mono {i = 10} {j = i} le))))
-
-  pub whole-feature : 6 ≤ i → bit w (i - 6) ≡ 1 → (k : ℕ) → k < 64 → bit 0xffff_ffff_ffff_ffff k ≡ bit (w * 64 + k) i
-  whole-feature le e k lk = ones-bit k lk ∙ sym (high-bits w k i lk le ∙ e)
-
-  pub none-feature : 6 ≤ i → (bit w (i - 6) ≡ 1 → ⊥) → (k : ℕ) → k < 64 → bit 0 k ≡ bit (w * 64 + k) i
-  none-feature le ne k lk = omega (arith, zero-bit k, high-bits w k i lk le)
-
 -- ---- word w of all products of n features: one law for each answer
 
-module _ (n w : ℕ) where
-  ones-below : ((k : ℕ) → k < 64 → w * 64 + k < 2 ^ n) → (k : ℕ) → k < 64 → bit 0xffff_ffff_ffff_ffff k ≡ oneIf (ltb (w * 64 + k) (2 ^ n))
-  ones-below lt k lk = rw (lt-ltb (w * 64 + k) (2 ^ n) (lt k lk)) (ones-bit k lk)
+-- a first word has the numbers below 2 ^ m
+pub first-bit : (x m : ℕ) {n : ℕ} → T (passes (λ k. eqb (bit x k) (oneIf (ltb k (2 ^ m)))) 64) → n ≡ m → (k : ℕ) → k < 64 → bit x k ≡ oneIf (ltb k (2 ^ n))
+first-bit = word-at (λ n k. oneIf (ltb k (2 ^ n)))
 
+ones-below : (n p : ℕ) → p < 2 ^ n → (k : ℕ) → k < 64 → bit 0xffff_ffff_ffff_ffff k ≡ oneIf (ltb p (2 ^ n))
+ones-below n p lp k lk = rw (lt-ltb p (2 ^ n) lp) (ones-bit k lk)
+
+pub first-whole : (n : ℕ) → 6 ≤ n → (k : ℕ) → k < 64 → bit 0xffff_ffff_ffff_ffff k ≡ oneIf (ltb k (2 ^ n))
+first-whole n le k lk = ones-below n k (omega (arith, pow-mono {i = 6} {j = n} le)) k lk
+
+module _ (n w : ℕ) where
   zero-past : 2 ^ n ≤ w * 64 → (k : ℕ) → k < 64 → bit 0 k ≡ oneIf (ltb (w * 64 + k) (2 ^ n))
   zero-past le k lk = rw (le-ltb (w * 64 + k) (2 ^ n) (omega arith)) (zero-bit k)
 
@@ -157,20 +130,20 @@ module _ (n w : ℕ) where
       rw e at (pow-add 2 (n - 6) 6)
 
   pub all-whole : w < 16 → 10 ≤ n → (k : ℕ) → k < 64 → bit 0xffff_ffff_ffff_ffff k ≡ oneIf (ltb (w * 64 + k) (2 ^ n))
-  all-whole lw le = ones-below (λ k lk. omega (arith, pow-mono {i = 10} {j = n} le))
+  all-whole lw le k lk = ones-below n (w * 64 + k) (omega (arith, pow-mono {i = 10} {j = n} le)) k lk
 
   pub word-whole : 6 ≤ n → w / 2 ^ (n - 6) ≡ 0 → (k : ℕ) → k < 64 → bit 0xffff_ffff_ffff_ffff k ≡ oneIf (ltb (w * 64 + k) (2 ^ n))
-  word-whole le e =
+  word-whole le e k lk =
       let z : w < 2 ^ (n - 6) = omega (arith, div-add-mod' w (2 ^ (n - 6)), mod-lt w (pow-pos (n - 6)), ap (λ (m : ℕ). m * 2 ^ (n - 6)) e) in
-      ones-below (λ k lk. omega (arith, power-words le))
+      ones-below n (w * 64 + k) (omega (arith, power-words le)) k lk
 
   pub word-none : 6 ≤ n → (w / 2 ^ (n - 6) ≡ 0 → ⊥) → (k : ℕ) → k < 64 → bit 0 k ≡ oneIf (ltb (w * 64 + k) (2 ^ n))
   word-none le ne =
       let z : (w < 2 ^ (n - 6)) → ⊥ = λ lt. ne (div-eq-of-lt lt) in
       zero-past (omega (arith, power-words le))
 
-  pub word-first : n < 6 → w ≡ 0 → (k : ℕ) → k < 64 → bit (getD firsts n 0) k ≡ oneIf (ltb (w * 64 + k) (2 ^ n))
-  word-first ln e k lk = let d : w * 64 + k ≡ k = omega arith in rw d (first-bit n k ln lk)
+  pub word-first : (x : ℕ) → ((k : ℕ) → k < 64 → bit x k ≡ oneIf (ltb k (2 ^ n))) → w ≡ 0 → (k : ℕ) → k < 64 → bit x k ≡ oneIf (ltb (w * 64 + k) (2 ^ n))
+  word-first x h e k lk = let d : w * 64 + k ≡ k = omega arith in rw d (h k lk)
 
   pub word-later : n < 6 → (w ≡ 0 → ⊥) → (k : ℕ) → k < 64 → bit 0 k ≡ oneIf (ltb (w * 64 + k) (2 ^ n))
   word-later ln ne = zero-past (omega (arith, pow-mono {i = n} {j = 6} (omega arith)))

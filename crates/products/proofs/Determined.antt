@@ -10,7 +10,7 @@ use Rattle.products.specs.declared.Found.{Found}
 use Rattle.products.specs.declared.Found.the-variants.{At, Nothing}
 use Rattle.products.proofs.Laws.{same-members}
 
--- of every function that answers a set: both, either, without, choice, feature, all
+-- of every function that answers a set: both, either, without, choice, lay_feature, all
 pub members-determine : (f : ℕ → ℕ) (r r′ : List ℕ) → Words r → Words r′ → ((p : ℕ) → p < 1024 → has r p ≡ f p) → ((p : ℕ) → p < 1024 → has r′ p ≡ f p) → r ≡ r′
 members-determine f r r′ w w′ h h′ = same-members w w′ (λ p lp. h p lp ∙ sym (h′ p lp))
 

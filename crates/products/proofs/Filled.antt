@@ -5,9 +5,11 @@ use mathlib.Core.List.{List}
 use Prim.Native.Nat.{ℕ, _+_, _*_, _/_, _%_, _<_, _≤_}
 use native.Mathlib.Omega.{arith}
 use borrow.Author.Count.{below-more}
+use lib.Dec.{T, eqb, eqb→eq}
 use lib.ListN.{getD, length, replicate, set, length-set, getD-replicate}
 use lib.Seq.{getD-set-same, getD-set-other}
 use Rattle.products.specs.Sets.{bit, has}
+use Rattle.products.proofs.Bits.{passes, passes-at}
 use Rattle.products.proofs.Laws.{has-at}
 
 -- the first i words of r have the products that f says
@@ -38,6 +40,11 @@ filled-has h le p lt =
 -- the same word throughout
 pub filled-alike : {f : ℕ → ℕ} (x : ℕ) → ((w k : ℕ) → k < 64 → bit x k ≡ f (w * 64 + k)) → Filled f (replicate 16 x) 16
 filled-alike x e = record { most = omega arith; long = refl; words = λ w lw k lk. rw (getD-replicate 16 w x 0 lw) (e w k lk) }
+
+-- a set of the code, whose members a computed test compares with the products that have feature n
+pub feature-has : (s : List ℕ) (n : ℕ) {i : ℕ} → T (passes (λ p. eqb (bit (getD s (p / 64) 0) (p % 64)) (bit p n)) 1024) → i ≡ n → (p : ℕ) → p < 1024 → has s p ≡ bit p i
+unfolding has
+feature-has s n test e p lp = rw e (eqb→eq (has s p) (bit p n) (passes-at (λ p. eqb (has s p) (bit p n)) 1024 test p lp))
 
 -- one word more, by an operation op on words that does to each bit what on says; an operation on two sets leaves the third unused
 module _ (op on : ℕ → ℕ → ℕ → ℕ) (law : (x y z k : ℕ) → bit (op x y z) k ≡ on (bit x k) (bit y k) (bit z k)) where

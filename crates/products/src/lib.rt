@@ -1,4 +1,4 @@
-// Sets of products, sixteen 64-bit words by value. Product p is bit p % 64 of word p / 64, so a set
+// Sets of products, sixteen 64-bit words. Product p is bit p % 64 of word p / 64, so a set
 // speaks of all 1,024 products of ten features; `all` gives those of fewer. Nothing here knows of
 // guards, sheets or names.
 ghost use mathlib.Core.Path.{_≡_};
@@ -64,47 +64,66 @@ pub fn choice(c: [u64; 16], a: [u64; 16], b: [u64; 16]) -> [u64; 16]
     r
 }
 
-const MASKS: [u64; 6] = [
-    0xaaaa_aaaa_aaaa_aaaa,
-    0xcccc_cccc_cccc_cccc,
-    0xf0f0_f0f0_f0f0_f0f0,
-    0xff00_ff00_ff00_ff00,
-    0xffff_0000_ffff_0000,
-    0xffff_ffff_0000_0000,
-];
+// A word with all its 64 products.
+const ON: u64 = 0xffff_ffff_ffff_ffff;
 
-// Word w of the set of the products that have feature i, from 6 on: whole words have it or have not.
-fn feature_word(i: usize, w: usize) -> u64
-    requires { ⌜ (w < 16) × (6 ≤ i) ⌝ }
-    ensures { λ r. ⌜ ((k : ℕ) → k < 64 → bit r k ≡ bit (w * 64 + k) i) ⌝ }
+// The numbers below 64 that have bit i.
+fn mask(i: usize) -> u64
+    ensures { λ r. ⌜ ((k : ℕ) → k < 64 → bit r k ≡ bit k i) ⌝ }
 {
-    if 10 <= i {
-        return 0;
+    match i {
+        0 => 0xaaaa_aaaa_aaaa_aaaa,
+        1 => 0xcccc_cccc_cccc_cccc,
+        2 => 0xf0f0_f0f0_f0f0_f0f0,
+        3 => 0xff00_ff00_ff00_ff00,
+        4 => 0xffff_0000_ffff_0000,
+        5 => 0xffff_ffff_0000_0000,
+        _ => 0,
     }
-    if (w >> (i - 6)) % 2 == 1 {
-        return 0xffff_ffff_ffff_ffff;
-    }
-    0
 }
 
-// The products that have feature i. No product has a feature from 10 on.
-pub fn feature(i: usize) -> [u64; 16]
-    ensures { λ r. ⌜ ((p : ℕ) → p < 1024 → has r p ≡ bit p i) ⌝ }
+// The products that have feature i, laid into `set`. No product has a feature from 10 on.
+pub fn lay_feature(i: usize, set: &mut [u64; 16])
+    ensures { λ _. ⌜ ((p : ℕ) → p < 1024 → has (now (set .exit)) p ≡ bit p i) ⌝ }
 {
     if i < 6 {
-        let mask = MASKS[i];
-        return [mask; 16];
+        let word = mask(i);
+        *set = [word; 16];
+        return;
     }
-    let mut r = [0u64; 16];
-    let mut w = 0;
-    while w < 16 {
-        r[w] = feature_word(i, w);
-        w += 1;
+    match i {
+        6 => {
+            *set = [0, ON, 0, ON, 0, ON, 0, ON, 0, ON, 0, ON, 0, ON, 0, ON];
+        }
+        7 => {
+            *set = [0, 0, ON, ON, 0, 0, ON, ON, 0, 0, ON, ON, 0, 0, ON, ON];
+        }
+        8 => {
+            *set = [0, 0, 0, 0, ON, ON, ON, ON, 0, 0, 0, 0, ON, ON, ON, ON];
+        }
+        9 => {
+            *set = [0, 0, 0, 0, 0, 0, 0, 0, ON, ON, ON, ON, ON, ON, ON, ON];
+        }
+        _ => {
+            *set = [0u64; 16];
+        }
     }
-    r
 }
 
-const FIRST_WORDS: [u64; 6] = [0x1, 0x3, 0xf, 0xff, 0xffff, 0xffff_ffff];
+// The numbers below 64 that are products of n features.
+fn first_word(n: usize) -> u64
+    ensures { λ r. ⌜ ((k : ℕ) → k < 64 → bit r k ≡ oneIf (ltb k (2 ^ n))) ⌝ }
+{
+    match n {
+        0 => 0x1,
+        1 => 0x3,
+        2 => 0xf,
+        3 => 0xff,
+        4 => 0xffff,
+        5 => 0xffff_ffff,
+        _ => ON,
+    }
+}
 
 // Word w of the set of all products of n features.
 fn all_word(n: usize, w: usize) -> u64
@@ -112,16 +131,16 @@ fn all_word(n: usize, w: usize) -> u64
     ensures { λ r. ⌜ ((k : ℕ) → k < 64 → bit r k ≡ oneIf (ltb (w * 64 + k) (2 ^ n))) ⌝ }
 {
     if 10 <= n {
-        return 0xffff_ffff_ffff_ffff;
+        return ON;
     }
     if 6 <= n {
         if w >> (n - 6) == 0 {
-            return 0xffff_ffff_ffff_ffff;
+            return ON;
         }
         return 0;
     }
     if w == 0 {
-        return FIRST_WORDS[n];
+        return first_word(n);
     }
     0
 }

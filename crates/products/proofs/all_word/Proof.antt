@@ -15,7 +15,7 @@ returns-3 : tie.Need-returns-3
 returns-3 c = word-none _ _ (c .before .if2 .taken) (c .if3 .left)
 
 returns-4 : tie.Need-returns-4
-returns-4 c = word-first _ _ (c .before .if2 .left) (c .if4 .taken)
+returns-4 c = word-first _ _ (c .first-word .result) (c .first-word .ensures) (c .before .if4 .taken)
 
 returns-5 : tie.Need-returns-5
 returns-5 c = word-later _ _ (c .before .if2 .left) (c .if4 .left)
@@ -23,4 +23,4 @@ returns-5 c = word-later _ _ (c .before .if2 .left) (c .if4 .left)
 pub all-word-spec : {M : Type 1} → statement M
 all-word-spec =
     tie.close
-    (tie.spec returns (λ c. search needs) returns-2 returns-3 (λ c. search needs) (λ c. search needs) returns-4 returns-5)
+    (tie.spec returns (λ c. search needs) returns-2 returns-3 (λ c κs. search needs) returns-4 returns-5)
