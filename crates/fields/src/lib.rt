@@ -1,6 +1,7 @@
 // Bytes of a line: where a mark stands, a part, the same bytes, the run of a name. Every public function
 // takes whole slices and asks nothing of its caller; none writes. What a field says is told in `values`,
 // and how a line is cut in `cutting`.
+ghost use mathlib.Core.Bool.{true, false};
 ghost use mathlib.Core.Path.{_≡_};
 ghost use Prim.Native.Nat.{ℕ, _+_, _-_, _≤_, _<_};
 ghost use lib.ListN.{getD};
@@ -24,19 +25,19 @@ pub enum FourFields {
     NotFour,
 }
 
-// The first place from `from` on at which s has the byte m, or the end of s. Four bytes by one test.
+// The first place from `from` on at which s has the byte m, or the end of s. Eight bytes by one test.
 pub fn find(s: &[u8], m: u8, from: usize) -> usize
     ensures { λ r. ⌜ FirstAt (now (s .entry)) m from r ⌝ }
 {
     let mut i = from;
     while i < s.len() {
-        if s.len() - i < 4 {
+        if s.len() - i < 8 {
             return find_near(s, m, i);
         }
-        if apart(s, m, i) == 0 {
-            return in_four(s, m, i);
+        if in_eight(s, m, i) {
+            return find_near(s, m, i);
         }
-        i += 4;
+        i += 8;
     }
     s.len()
 }
@@ -55,34 +56,20 @@ fn find_near(s: &[u8], m: u8, from: usize) -> usize
     s.len()
 }
 
-// 0 exactly if one of the four bytes from i on is m.
-fn apart(s: &[u8], m: u8, i: usize) -> u32
-    requires { do ⌜ i + 4 ≤ (← ⟦s.len()⟧) ⌝ }
-    ensures none { λ r. ⌜ (0 < r → (k : ℕ) → k < 4 → getD (now (s .entry)) (i + k) 0 ≡ m → ⊥) ⌝ }
-    ensures some { λ r. ⌜ (r ≡ 0 → (k : ℕ) × (k < 4) × (getD (now (s .entry)) (i + k) 0 ≡ m)) ⌝ }
+// Whether one of the eight bytes from i on is m.
+fn in_eight(s: &[u8], m: u8, i: usize) -> bool
+    requires { do ⌜ i + 8 ≤ (← ⟦s.len()⟧) ⌝ }
+    ensures none { λ r. ⌜ (r ≡ false → (k : ℕ) → k < 8 → getD (now (s .entry)) (i + k) 0 ≡ m → ⊥) ⌝ }
+    ensures some { λ r. ⌜ (r ≡ true → (k : ℕ) × (k < 8) × (getD (now (s .entry)) (i + k) 0 ≡ m)) ⌝ }
 {
-    ((s[i] ^ m) as u32)
-        * ((s[i + 1] ^ m) as u32)
-        * ((s[i + 2] ^ m) as u32)
-        * ((s[i + 3] ^ m) as u32)
-}
-
-// The place of the first m among the four bytes from i on, of which one is m.
-fn in_four(s: &[u8], m: u8, i: usize) -> usize
-    requires { do ⌜ i + 4 ≤ (← ⟦s.len()⟧) ⌝ }
-    requires { ⌜ ((k : ℕ) × (k < 4) × (getD (now s) (i + k) 0 ≡ m)) ⌝ }
-    ensures { λ r. ⌜ FirstAt (now (s .entry)) m i r ⌝ }
-{
-    if s[i] == m {
-        return i;
-    }
-    if s[i + 1] == m {
-        return i + 1;
-    }
-    if s[i + 2] == m {
-        return i + 2;
-    }
-    i + 3
+    (s[i] == m)
+        | (s[i + 1] == m)
+        | (s[i + 2] == m)
+        | (s[i + 3] == m)
+        | (s[i + 4] == m)
+        | (s[i + 5] == m)
+        | (s[i + 6] == m)
+        | (s[i + 7] == m)
 }
 
 // The bytes from place a up to place e, or none where s has no such part.

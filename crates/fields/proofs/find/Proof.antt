@@ -2,7 +2,7 @@
 use Prim.Native.Nat.{_-_}
 use native.Mathlib.Omega.{arith}
 use lib.ListN.{length}
-use Rattle.fields.proofs.Found.{Passed, passed-none, passed-four, first-later, first-none}
+use Rattle.fields.proofs.Found.{Passed, passed-none, passed-eight, first-later, first-none}
 use borrow.Author.Needs.{needs}
 use Rattle.fields.proofs.find.Statement.{statement}
 use Rattle.fields.proofs.find.Tie as tie
@@ -19,14 +19,11 @@ loop-holds c = passed-none _ _ _
 returns : tie.Need-returns Inv-loop μ-loop
 returns c = first-later (c .before .before .before .loop .inv) (c .find-near .ensures)
 
-in-four-requires : tie.Need-in-four-requires Inv-loop μ-loop
-in-four-requires c κs = (omega arith, c .before .apart .ensures .1 (c .if2 .taken))
-
 returns-2 : tie.Need-returns-2 Inv-loop μ-loop
-returns-2 c = first-later (c .before .before .before .before .before .loop .inv) (c .in-four .ensures)
+returns-2 c = first-later (c .before .before .before .before .before .loop .inv) (c .find-near2 .ensures)
 
 loop-again : tie.Need-loop-again Inv-loop μ-loop
-loop-again c = passed-four (c .before .before .before .before .loop .inv) (c .before .apart .ensures .0 (omega arith))
+loop-again c = passed-eight (c .before .before .before .before .loop .inv) (c .before .in-eight .ensures .0 (c .if2 .left))
 
 returns-3 : tie.Need-returns-3 Inv-loop μ-loop
 returns-3 c = first-none (c .before .loop .inv) (c .loop-test .left)
@@ -42,7 +39,7 @@ find-spec =
     (λ c κs. search needs)
     returns
     (λ c κs. search needs)
-    in-four-requires
+    (λ c κs. search needs)
     returns-2
     (λ c. search needs)
     (λ c. search needs)
