@@ -3,11 +3,11 @@
 // chain go in a loop, so that calls are never nested deeper than the guard is.
 ghost use mathlib.Core.Path.{_≡_};
 ghost use Prim.Native.Nat.{ℕ, _+_, _≤_, _<_, min};
-ghost use lib.ListN.{length, drop, getD, replicate};
+ghost use lib.ListN.{length, drop};
 ghost use mathlib.Core.List.{List};
 ghost use Rattle.fields.specs.Bytes.{part};
 ghost use Rattle.guards.specs.Guard.{Guard, Operator, Parts, byteOf, Means, PartsMean};
-ghost use Rattle.guards.specs.Reading.{number, namesOf, parts, otherwise, opened, Inside, readGuard, readWhole, Reads};
+ghost use Rattle.guards.specs.Reading.{number, namesOf, parts, otherwise, opened, Inside, readGuard, readWhole, Reads, Follows};
 use products::Found;
 
 // How far a guard was read, or the refusal with the place of the faulty byte.
@@ -16,28 +16,30 @@ pub enum GuardRead {
     Refused { number: u8, at: usize },
 }
 
-// The set of products in which the guard holds stands beside; on a refusal it is empty.
-pub struct GuardAnswer {
-    pub read: GuardRead,
-    pub set: [u64; 16],
-}
-
 const MOST_NESTING: usize = 32;
 
 // The guard that the whole of `field` spells. The features' names are places in `text`, in the first
-// `count` rows of `names`; a count above ten is taken for ten.
-pub fn read_whole(text: &[u8], names: &[[usize; 2]; 10], count: usize, field: &[u8]) -> GuardAnswer
-    ensures { λ r. ⌜ Reads (now (field .entry)) 0 (r .read) (r .set) (readWhole (namesOf (now (text .entry)) (now (names .entry)) (min count 10)) (now (field .entry))) ⌝ }
+// `count` rows of `names`; a count above ten is taken for ten. The set of products in which the guard
+// holds is laid into `set`; after a refusal it is empty.
+pub fn read_whole(
+    text: &[u8],
+    names: &[[usize; 2]; 10],
+    count: usize,
+    field: &[u8],
+    set: &mut [u64; 16],
+) -> GuardRead
+    ensures { λ r. ⌜ Reads (now (field .entry)) 0 r (now (set .exit)) (readWhole (namesOf (now (text .entry)) (now (names .entry)) (min count 10)) (now (field .entry))) ⌝ }
 {
-    let a = read_guard(text, names, count, field, 0, MOST_NESTING);
-    let r = a.read;
+    let r = read_guard(text, names, count, field, 0, MOST_NESTING, set);
     let GuardRead::Upto(next) = r else {
-        return a;
+        *set = [0u64; 16];
+        return r;
     };
     if next < field.len() {
+        *set = [0u64; 16];
         return refuse(5, next);
     }
-    a
+    r
 }
 
 // The number of the feature that `name` names; the features' names are as in `read_whole`.
@@ -57,25 +59,14 @@ pub fn find_name(text: &[u8], names: &[[usize; 2]; 10], count: usize, name: &[u8
     Found::Nothing
 }
 
-fn refuse(number: u8, at: usize) -> GuardAnswer
-    ensures { λ r. ⌜ (r .read ≡ GuardRead.Refused number at) × (r .set ≡ replicate 16 0) ⌝ }
+fn refuse(number: u8, at: usize) -> GuardRead
+    ensures { λ r. ⌜ r ≡ GuardRead.Refused number at ⌝ }
 {
-    GuardAnswer {
-        read: GuardRead::Refused { number, at },
-        set: [0u64; 16],
-    }
+    GuardRead::Refused { number, at }
 }
 
-fn take_to(next: usize, set: [u64; 16]) -> GuardAnswer
-    ensures { λ r. ⌜ (r .read ≡ GuardRead.Upto next) × (r .set ≡ set) ⌝ }
-{
-    GuardAnswer {
-        read: GuardRead::Upto(next),
-        set: set,
-    }
-}
-
-// The guard that begins at `at`, where `left` more may be nested.
+// The guard that begins at `at`, where `left` more may be nested. What the set holds after a refusal is
+// left open, here and in the three readers that follow.
 fn read_guard(
     text: &[u8],
     names: &[[usize; 2]; 10],
@@ -83,37 +74,40 @@ fn read_guard(
     field: &[u8],
     at: usize,
     left: usize,
-) -> GuardAnswer
+    set: &mut [u64; 16],
+) -> GuardRead
     requires { ⌜ at ≤ length (now field) ⌝ }
-    ensures { λ r. ⌜ Reads (now (field .entry)) at (r .read) (r .set) (readGuard (namesOf (now (text .entry)) (now (names .entry)) (min count 10)) left (drop at (now (field .entry)))) ⌝ }
+    ensures { λ r. ⌜ Follows (now (field .entry)) at r (now (set .exit)) (readGuard (namesOf (now (text .entry)) (now (names .entry)) (min count 10)) left (drop at (now (field .entry)))) ⌝ }
 {
     if at == field.len() {
         return refuse(5, at);
     }
     let b = field[at];
     if b == b'0' {
-        return take_to(at + 1, set_never());
+        *set = set_never();
+        return GuardRead::Upto(at + 1);
     }
     if b == b'1' {
-        return take_to(at + 1, set_always());
+        *set = set_always();
+        return GuardRead::Upto(at + 1);
     }
     if b == b'!' {
         if left == 0 {
             return refuse(7, at);
         }
-        let a = read_guard(text, names, count, field, at + 1, left - 1);
-        let r = a.read;
-        let GuardRead::Upto(next) = r else {
-            return a;
+        let r = read_guard(text, names, count, field, at + 1, left - 1, set);
+        let GuardRead::Upto(_) = r else {
+            return r;
         };
-        let denied = a.set;
-        return take_to(next, set_not(denied));
+        let denied = *set;
+        *set = set_not(denied);
+        return r;
     }
     if b == b'(' {
         if left == 0 {
             return refuse(7, at);
         }
-        return read_open(text, names, count, field, at + 1, left - 1);
+        return read_open(text, names, count, field, at + 1, left - 1, set);
     }
     if !fields::is_letter(b) {
         return refuse(5, at);
@@ -123,7 +117,8 @@ fn read_guard(
     let Found::At(i) = f else {
         return refuse(6, at);
     };
-    take_to(e, set_feature(i))
+    *set = set_feature(i);
+    GuardRead::Upto(e)
 }
 
 // What stands behind an opened bracket: a choice or a chain, by what follows its first guard.
@@ -134,33 +129,32 @@ fn read_open(
     field: &[u8],
     at: usize,
     left: usize,
-) -> GuardAnswer
+    set: &mut [u64; 16],
+) -> GuardRead
     requires { ⌜ at ≤ length (now field) ⌝ }
-    ensures { λ r. ⌜ Reads (now (field .entry)) at (r .read) (r .set) (opened (Inside.inside (readGuard (namesOf (now (text .entry)) (now (names .entry)) (min count 10)) left)) List.[] (drop at (now (field .entry)))) ⌝ }
+    ensures { λ r. ⌜ Follows (now (field .entry)) at r (now (set .exit)) (opened (Inside.inside (readGuard (namesOf (now (text .entry)) (now (names .entry)) (min count 10)) left)) List.[] (drop at (now (field .entry)))) ⌝ }
 {
-    let a = read_guard(text, names, count, field, at, left);
-    let r = a.read;
+    let r = read_guard(text, names, count, field, at, left, set);
     let GuardRead::Upto(next) = r else {
-        return a;
+        return r;
     };
     if next == field.len() {
         return refuse(5, next);
     }
-    let first = a.set;
     let op = field[next];
     if op == b'?' {
-        return read_choice(text, names, count, field, next + 1, left, first);
+        return read_choice(text, names, count, field, next + 1, left, set);
     }
     if op == b'&' {
-        return read_chain(text, names, count, field, next + 1, left, op, first);
+        return read_chain(text, names, count, field, next + 1, left, op, set);
     }
     if op == b'|' {
-        return read_chain(text, names, count, field, next + 1, left, op, first);
+        return read_chain(text, names, count, field, next + 1, left, op, set);
     }
     refuse(5, next)
 }
 
-// The two guards of a choice, whose condition holds in the set `condition`.
+// The two guards of a choice, whose condition holds in the set lent.
 fn read_choice(
     text: &[u8],
     names: &[[usize; 2]; 10],
@@ -168,15 +162,15 @@ fn read_choice(
     field: &[u8],
     at: usize,
     left: usize,
-    condition: [u64; 16],
-) -> GuardAnswer
+    set: &mut [u64; 16],
+) -> GuardRead
     requires { ⌜ at ≤ length (now field) ⌝ }
-    ensures { λ r. ⌜ ((c : Guard) → Means condition c → Reads (now (field .entry)) at (r .read) (r .set) (otherwise (readGuard (namesOf (now (text .entry)) (now (names .entry)) (min count 10)) left) c (readGuard (namesOf (now (text .entry)) (now (names .entry)) (min count 10)) left (drop at (now (field .entry)))))) ⌝ }
+    ensures { λ r. ⌜ ((c : Guard) → Means (now (set .entry)) c → Follows (now (field .entry)) at r (now (set .exit)) (otherwise (readGuard (namesOf (now (text .entry)) (now (names .entry)) (min count 10)) left) c (readGuard (namesOf (now (text .entry)) (now (names .entry)) (min count 10)) left (drop at (now (field .entry)))))) ⌝ }
 {
-    let a = read_guard(text, names, count, field, at, left);
-    let r = a.read;
+    let mut there = [0u64; 16];
+    let r = read_guard(text, names, count, field, at, left, &mut there);
     let GuardRead::Upto(colon) = r else {
-        return a;
+        return r;
     };
     if colon == field.len() {
         return refuse(5, colon);
@@ -184,11 +178,10 @@ fn read_choice(
     if field[colon] != b':' {
         return refuse(5, colon);
     }
-    let there = a.set;
-    let b = read_guard(text, names, count, field, colon + 1, left);
-    let q = b.read;
+    let mut elsewhere = [0u64; 16];
+    let q = read_guard(text, names, count, field, colon + 1, left, &mut elsewhere);
     let GuardRead::Upto(end) = q else {
-        return b;
+        return q;
     };
     if end == field.len() {
         return refuse(5, end);
@@ -196,11 +189,12 @@ fn read_choice(
     if field[end] != b')' {
         return refuse(5, end);
     }
-    let elsewhere = b.set;
-    take_to(end + 1, set_choice(condition, there, elsewhere))
+    let condition = *set;
+    *set = set_choice(condition, there, elsewhere);
+    GuardRead::Upto(end + 1)
 }
 
-// The parts of a chain behind the operator `op`, whose first part holds in the set `first`.
+// The parts of a chain behind the operator `op`, whose first part holds in the set lent.
 fn read_chain(
     text: &[u8],
     names: &[[usize; 2]; 10],
@@ -209,28 +203,26 @@ fn read_chain(
     from: usize,
     left: usize,
     op: u8,
-    first: [u64; 16],
-) -> GuardAnswer
+    set: &mut [u64; 16],
+) -> GuardRead
     requires { ⌜ from ≤ length (now field) ⌝ }
-    ensures { λ r. ⌜ ((o : Operator) (ps : Parts) → op ≡ byteOf o → PartsMean first o ps → Reads (now (field .entry)) from (r .read) (r .set) (parts (readGuard (namesOf (now (text .entry)) (now (names .entry)) (min count 10)) left) (length (drop from (now (field .entry)))) o ps (drop from (now (field .entry))))) ⌝ }
+    ensures { λ r. ⌜ ((o : Operator) (ps : Parts) → op ≡ byteOf o → PartsMean (now (set .entry)) o ps → Follows (now (field .entry)) from r (now (set .exit)) (parts (readGuard (namesOf (now (text .entry)) (now (names .entry)) (min count 10)) left) (length (drop from (now (field .entry)))) o ps (drop from (now (field .entry))))) ⌝ }
 {
     let mut at = from;
-    let mut set = first;
+    let mut part = [0u64; 16];
     loop {
-        let a = read_guard(text, names, count, field, at, left);
-        let r = a.read;
+        let r = read_guard(text, names, count, field, at, left, &mut part);
         let GuardRead::Upto(next) = r else {
-            return a;
+            return r;
         };
         if next == field.len() {
             return refuse(5, next);
         }
         let b = field[next];
-        let part = a.set;
-        let joined = set_joined(op, set, part);
-        set = joined;
+        let first = *set;
+        *set = set_joined(op, first, part);
         if b == b')' {
-            return take_to(next + 1, set);
+            return GuardRead::Upto(next + 1);
         }
         if b != op {
             return refuse(5, next);

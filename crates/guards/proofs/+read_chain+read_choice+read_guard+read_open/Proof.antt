@@ -33,58 +33,57 @@ use Rattle.guards.proofs.set_feature.Reads as set-feature-reads
 use Rattle.guards.proofs.set_joined.Reads as set-joined-reads
 use Rattle.guards.proofs.set_never.Reads as set-never-reads
 use Rattle.guards.proofs.set_not.Reads as set-not-reads
-use Rattle.guards.proofs.take_to.Reads as take-to-reads
 use Rattle.guards.proofs.+read_chain+read_choice+read_guard+read_open.{statement}
 use Rattle.guards.proofs.+read_chain+read_choice+read_guard+read_open.Tie.{close}
 
-abbrev μ-read-chain : Measures 3 read-chain-kinds.ps ℕ
+abbrev μ-read-chain : Measures 4 read-chain-kinds.ps ℕ
 μ-read-chain κs a = 2 * (length (a .1 .1 .1 .0 .now) - a .1 .1 .1 .1 .0) + 1
 
-abbrev μ-read-choice : Measures 3 read-choice-kinds.ps ℕ
+abbrev μ-read-choice : Measures 4 read-choice-kinds.ps ℕ
 μ-read-choice κs a = 2 * (length (a .1 .1 .1 .0 .now) - a .1 .1 .1 .1 .0) + 1
 
-abbrev μ-read-guard : Measures 3 read-guard-kinds.ps ℕ
+abbrev μ-read-guard : Measures 4 read-guard-kinds.ps ℕ
 μ-read-guard κs a = 2 * (length (a .1 .1 .1 .0 .now) - a .1 .1 .1 .1 .0)
 
-abbrev μ-read-open : Measures 3 read-open-kinds.ps ℕ
+abbrev μ-read-open : Measures 4 read-open-kinds.ps ℕ
 μ-read-open κs a = 2 * (length (a .1 .1 .1 .0 .now) - a .1 .1 .1 .1 .0) + 1
 
-abbrev read-chain-at : ℕ → In 3 read-chain-kinds.ps
+abbrev read-chain-at : ℕ → In 4 read-chain-kinds.ps
 read-chain-at t =
-    and 3 read-chain-kinds.ps (is 3 read-chain-kinds.ps μ-read-chain t) read-chain.Pre
+    and 4 read-chain-kinds.ps (is 4 read-chain-kinds.ps μ-read-chain t) read-chain.Pre
 
-abbrev read-chain-below : ℕ → In 3 read-chain-kinds.ps
+abbrev read-chain-below : ℕ → In 4 read-chain-kinds.ps
 read-chain-below t =
-    and 3 read-chain-kinds.ps (falls 3 read-chain-kinds.ps _<_ μ-read-chain t) read-chain.Pre
+    and 4 read-chain-kinds.ps (falls 4 read-chain-kinds.ps _<_ μ-read-chain t) read-chain.Pre
 
-abbrev read-choice-at : ℕ → In 3 read-choice-kinds.ps
+abbrev read-choice-at : ℕ → In 4 read-choice-kinds.ps
 read-choice-at t =
-    and 3 read-choice-kinds.ps (is 3 read-choice-kinds.ps μ-read-choice t) read-choice.Pre
+    and 4 read-choice-kinds.ps (is 4 read-choice-kinds.ps μ-read-choice t) read-choice.Pre
 
-abbrev read-choice-below : ℕ → In 3 read-choice-kinds.ps
+abbrev read-choice-below : ℕ → In 4 read-choice-kinds.ps
 read-choice-below t =
-    and 3 read-choice-kinds.ps (falls 3 read-choice-kinds.ps _<_ μ-read-choice t) read-choice.Pre
+    and 4 read-choice-kinds.ps (falls 4 read-choice-kinds.ps _<_ μ-read-choice t) read-choice.Pre
 
-abbrev read-guard-at : ℕ → In 3 read-guard-kinds.ps
+abbrev read-guard-at : ℕ → In 4 read-guard-kinds.ps
 read-guard-at t =
-    and 3 read-guard-kinds.ps (is 3 read-guard-kinds.ps μ-read-guard t) read-guard.Pre
+    and 4 read-guard-kinds.ps (is 4 read-guard-kinds.ps μ-read-guard t) read-guard.Pre
 
-abbrev read-guard-below : ℕ → In 3 read-guard-kinds.ps
+abbrev read-guard-below : ℕ → In 4 read-guard-kinds.ps
 read-guard-below t =
-    and 3 read-guard-kinds.ps (falls 3 read-guard-kinds.ps _<_ μ-read-guard t) read-guard.Pre
+    and 4 read-guard-kinds.ps (falls 4 read-guard-kinds.ps _<_ μ-read-guard t) read-guard.Pre
 
-abbrev read-open-at : ℕ → In 3 read-open-kinds.ps
-read-open-at t = and 3 read-open-kinds.ps (is 3 read-open-kinds.ps μ-read-open t) read-open.Pre
+abbrev read-open-at : ℕ → In 4 read-open-kinds.ps
+read-open-at t = and 4 read-open-kinds.ps (is 4 read-open-kinds.ps μ-read-open t) read-open.Pre
 
-abbrev read-open-below : ℕ → In 3 read-open-kinds.ps
+abbrev read-open-below : ℕ → In 4 read-open-kinds.ps
 read-open-below t =
-    and 3 read-open-kinds.ps (falls 3 read-open-kinds.ps _<_ μ-read-open t) read-open.Pre
+    and 4 read-open-kinds.ps (falls 4 read-open-kinds.ps _<_ μ-read-open t) read-open.Pre
 
 abbrev read-chain-Inv-loop : read-chain-lts.InvT-loop
-read-chain-Inv-loop text names count field from left op at₀ set₀ at set = Chained field (namesOf text names (min count 10)) left op from set₀ at set
+read-chain-Inv-loop text names count field from left op set₀ at₀ part₀ set at part = Chained field (namesOf text names (min count 10)) left op from set₀ at set
 
 abbrev read-chain-μ-loop : read-chain-lts.MeasureT-loop
-read-chain-μ-loop text names count field from left op at₀ set₀ at set = length field - at
+read-chain-μ-loop text names count field from left op set₀ at₀ part₀ set at part = length field - at
 
 read-chain-closed : (M : Type 1) (t : ℕ) → read-chain-lts.Closed (
   read-guard-below t,
@@ -93,8 +92,6 @@ read-chain-closed : (M : Type 1) (t : ℕ) → read-chain-lts.Closed (
   refuse-reads.Learnt,
   set-joined-reads.Asked,
   set-joined-reads.Learnt,
-  take-to-reads.Asked,
-  take-to-reads.Learnt,
 ) (read-chain-at t) read-chain.Post M
 read-chain-closed M t =
     read-chain-lts.spec (
@@ -104,8 +101,6 @@ read-chain-closed M t =
       refuse-reads.Learnt,
       set-joined-reads.Asked,
       set-joined-reads.Learnt,
-      take-to-reads.Asked,
-      take-to-reads.Learnt,
     )
     (read-chain-at t)
     read-chain.Post
@@ -115,19 +110,18 @@ read-chain-closed M t =
     (λ c κs. search needs)
     (λ c. search needs)
     (λ c. search needs)
-    (λ c. chain-up _ _ _ _ _ _ (c .enum-told .given .1) (c .before .before .read-guard .ensures) _ _ _ _ (c .before .before .before .loop .inv))
+    (λ c. chain-up _ _ _ _ _ _ _ (c .enum-told .given .1) (c .before .before .read-guard .ensures) _ _ _ _ (c .before .before .before .before .loop .inv))
     (λ c κs. search needs)
-    (λ c. let g = c .before .before .before in λ o ps e m. chain-end _ _ _ _ _ _ (g .r .given .1) (g .before .before .read-guard .ensures) _ _ _ _ (g .before .before .before .loop .inv) o ps e m _ _ (c .before .if1 .taken) (c .refuse .ensures))
+    (λ c. let g = c .before .before .before in λ o ps e m. chain-end _ _ _ _ _ _ (g .r .given .1) (g .before .before .read-guard .ensures) _ _ _ _ (g .before .before .before .before .loop .inv) o ps e m _ _ (c .before .if1 .taken) (c .refuse .ensures))
     (λ c. let k = ahead _ _ _ _ _ _ (c .before .before .before .r .given .1) (c .before .before .before .before .before .read-guard .ensures) in omega arith)
     (λ c κs. search needs)
     (λ c. let k = ahead _ _ _ _ _ _ (c .before .before .before .before .before .before .r .given .1) (c .before .before .before .before .before .before .before .before .read-guard .ensures) in omega arith)
+    (λ c. let g = c .before .before .before .before .before .before in λ o ps e m. chain-done _ _ _ _ _ _ (g .r .given .1) (g .before .before .read-guard .ensures) _ _ _ _ (g .before .before .before .before .loop .inv) o ps e m _ (c .before .before .before .before .if1 .left) (c .if2 .taken) (c .before .set-joined .ensures))
     (λ c κs. search needs)
-    (λ c. let g = c .before .before .before .before .before .before .before in λ o ps e m. chain-done _ _ _ _ _ _ (g .r .given .1) (g .before .before .read-guard .ensures) _ _ _ _ (g .before .before .before .loop .inv) o ps e m _ _ _ (c .before .before .before .before .before .if1 .left) (c .before .if2 .taken) (c .take-to .ensures) (c .before .before .set-joined .ensures))
-    (λ c κs. search needs)
-    (λ c. let g = c .before .before .before .before .before .before .before .before in λ o ps e m. chain-fault _ _ _ _ _ _ (g .r .given .1) (g .before .before .read-guard .ensures) _ _ _ _ (g .before .before .before .loop .inv) o ps e m _ _ (c .before .before .before .before .before .before .if1 .left) (c .before .before .if2 .left) (c .before .if3 .taken) (c .refuse2 .ensures))
+    (λ c. let g = c .before .before .before .before .before .before .before .before in λ o ps e m. chain-fault _ _ _ _ _ _ (g .r .given .1) (g .before .before .read-guard .ensures) _ _ _ _ (g .before .before .before .before .loop .inv) o ps e m _ _ (c .before .before .before .before .before .before .if1 .left) (c .before .before .if2 .left) (c .before .if3 .taken) (c .refuse2 .ensures))
     (λ c. let k = ahead _ _ _ _ _ _ (c .before .before .before .before .before .before .before .r .given .1) (c .before .before .before .before .before .before .before .before .before .read-guard .ensures) in omega arith)
     (λ c. let k = ahead _ _ _ _ _ _ (c .before .before .before .before .before .before .before .r .given .1) (c .before .before .before .before .before .before .before .before .before .read-guard .ensures) in omega arith)
-    (λ c. let g = c .before .before .before .before .before .before .before in chain-more _ _ _ _ _ _ (g .r .given .1) (g .before .before .read-guard .ensures) _ _ _ _ (g .before .before .before .loop .inv) _ (c .before .before .before .before .before .if1 .left) (c .before .if2 .left) (c .if3 .left) (c .before .before .set-joined .ensures))
+    (λ c. let g = c .before .before .before .before .before .before .before in chain-more _ _ _ _ _ _ (g .r .given .1) (g .before .before .read-guard .ensures) _ _ _ _ (g .before .before .before .before .loop .inv) _ (c .before .before .before .before .before .if1 .left) (c .before .if2 .left) (c .if3 .left) (c .before .before .set-joined .ensures))
 
 read-choice-closed : (M : Type 1) (t : ℕ) → read-choice-lts.Closed (
   read-guard-below t,
@@ -136,8 +130,6 @@ read-choice-closed : (M : Type 1) (t : ℕ) → read-choice-lts.Closed (
   refuse-reads.Learnt,
   set-choice-reads.Asked,
   set-choice-reads.Learnt,
-  take-to-reads.Asked,
-  take-to-reads.Learnt,
 ) (read-choice-at t) read-choice.Post M
 read-choice-closed M t =
     read-choice-lts.spec (
@@ -147,42 +139,37 @@ read-choice-closed M t =
       refuse-reads.Learnt,
       set-choice-reads.Asked,
       set-choice-reads.Learnt,
-      take-to-reads.Asked,
-      take-to-reads.Learnt,
     )
     (read-choice-at t)
     read-choice.Post
     (λ c κs. search needs)
     (λ c. search needs)
     (λ c. search needs)
-    (λ c x m. handed-on _ _ _ _ (otherwise _ x) (λ e bs. refl) _ _ (c .enum-told .given .1) (c .before .before .read-guard .ensures))
+    (λ c x m. handed-on _ _ _ _ (otherwise _ x) (λ e bs. refl) _ _ _ (c .enum-told .given .1) (c .before .before .read-guard .ensures))
     (λ c κs. search needs)
     (λ c. let g = c .before .before .before in λ x m. choice-end _ _ _ _ _ _ (g .r .given .1) (g .before .before .read-guard .ensures) x _ _ (c .before .if1 .taken) (c .refuse .ensures))
     (λ c. let k = ahead _ _ _ _ _ _ (c .before .before .before .r .given .1) (c .before .before .before .before .before .read-guard .ensures) in omega arith)
     (λ c κs. search needs)
     (λ c. let g = c .before .before .before .before .before in λ x m. choice-fault _ _ _ _ _ _ (g .r .given .1) (g .before .before .read-guard .ensures) x _ _ (c .before .before .before .if1 .left) (c .before .if2 .taken) (c .refuse2 .ensures))
-    (λ c. let k = ahead _ _ _ _ _ _ (c .before .before .before .before .before .r .given .1) (c .before .before .before .before .before .before .before .read-guard .ensures) in omega arith)
+    (λ c. let k = ahead _ _ _ _ _ _ (c .before .before .before .before .r .given .1) (c .before .before .before .before .before .before .read-guard .ensures) in omega arith)
     (λ c κs. let k = ahead _ _ _ _ _ _ (c .before .before .before .before .before .r .given .1) (c .before .before .before .before .before .before .before .read-guard .ensures) in (omega arith, omega arith))
     (λ c. search needs)
     (λ c. search needs)
-    (λ c. let g = c .before .before .before .before .before .before .before .before in λ x m. choice-up _ _ _ _ _ _ (g .r .given .1) (g .before .before .read-guard .ensures) _ _ (c .before .before .read-guard2 .ensures) x (c .before .before .before .before .before .before .if1 .left) (c .before .before .before .before .if2 .left) (c .enum-told2 .given .1))
+    (λ c. let g = c .before .before .before .before .before .before .before .before in λ x m. choice-up _ _ _ _ _ _ (g .r .given .1) (g .before .before .read-guard .ensures) _ _ (c .before .before .read-guard2 .ensures) x (c .before .before .before .before .before .before .if1 .left) (c .before .before .before .before .if2 .left) _ (c .enum-told2 .given .1))
     (λ c κs. search needs)
     (λ c. let h = c .before .before .before in let g = h .before .before .before .before .before .before .before .before in λ x m. choice-stop _ _ _ _ _ _ (g .r .given .1) (g .before .before .read-guard .ensures) _ _ (h .before .before .read-guard2 .ensures) x (h .before .before .before .before .before .before .if1 .left) (h .before .before .before .before .if2 .left) (h .q .given .1) _ _ (c .before .if3 .taken) (c .refuse3 .ensures))
     (λ c. let j = ahead _ _ _ _ _ _ (c .before .before .before .q .given .1) (c .before .before .before .before .before .read-guard2 .ensures) in omega arith)
     (λ c κs. search needs)
     (λ c. let h = c .before .before .before .before .before in let g = h .before .before .before .before .before .before .before .before in λ x m. choice-open _ _ _ _ _ _ (g .r .given .1) (g .before .before .read-guard .ensures) _ _ (h .before .before .read-guard2 .ensures) x (h .before .before .before .before .before .before .if1 .left) (h .before .before .before .before .if2 .left) (h .q .given .1) _ _ (c .before .before .before .if3 .left) (c .before .if4 .taken) (c .refuse4 .ensures))
-    (λ c. let j = ahead _ _ _ _ _ _ (c .before .before .before .before .before .q .given .1) (c .before .before .before .before .before .before .before .read-guard2 .ensures) in omega arith)
     (λ c κs. search needs)
-    (λ c κs. search needs)
-    (λ c. let h = c .before .before .before .before .before .before .before in let g = h .before .before .before .before .before .before .before .before in λ x m. choice-done _ _ _ _ _ _ (g .r .given .1) (g .before .before .read-guard .ensures) _ _ (h .before .before .read-guard2 .ensures) x (h .before .before .before .before .before .before .if1 .left) (h .before .before .before .before .if2 .left) (h .q .given .1) _ _ _ (c .before .before .before .before .before .if3 .left) (c .before .before .before .if4 .left) (c .take-to .ensures) (λ y z. c .before .set-choice .ensures x y z m))
+    (λ c. let j = ahead _ _ _ _ _ _ (c .before .before .before .before .before .before .q .given .1) (c .before .before .before .before .before .before .before .before .read-guard2 .ensures) in omega arith)
+    (λ c. let h = c .before .before .before .before .before .before in let g = h .before .before .before .before .before .before .before .before in λ x m. choice-done _ _ _ _ _ _ (g .r .given .1) (g .before .before .read-guard .ensures) _ _ (h .before .before .read-guard2 .ensures) x (h .before .before .before .before .before .before .if1 .left) (h .before .before .before .before .if2 .left) (h .q .given .1) _ (c .before .before .before .before .if3 .left) (c .before .before .if4 .left) (λ y z. c .set-choice .ensures x y z m))
 
 read-guard-closed : (M : Type 1) (t : ℕ) → read-guard-lts.Closed (
   refuse-reads.Asked,
   refuse-reads.Learnt,
   set-never-reads.Asked,
   set-never-reads.Learnt,
-  take-to-reads.Asked,
-  take-to-reads.Learnt,
   set-always-reads.Asked,
   set-always-reads.Learnt,
   read-guard-below t,
@@ -206,8 +193,6 @@ read-guard-closed M t =
       refuse-reads.Learnt,
       set-never-reads.Asked,
       set-never-reads.Learnt,
-      take-to-reads.Asked,
-      take-to-reads.Learnt,
       set-always-reads.Asked,
       set-always-reads.Learnt,
       read-guard-below t,
@@ -230,34 +215,31 @@ read-guard-closed M t =
     (λ c κs. search needs)
     (λ c. guard-end _ _ _ _ _ _ (c .before .if1 .taken) (c .refuse .ensures))
     (λ c. search needs)
+    (λ c κs. search needs)
     (λ c. search needs)
+    (λ c. let b = c .before .before .before in guard-never _ _ _ _ (b .before .before .before .pre .1) (b .if1 .left) _ (c .before .if2 .taken) (c .set-never .ensures))
     (λ c κs. search needs)
-    (λ c κs. search needs)
-    (λ c. let b = c .before .before .before in guard-never _ _ _ _ (b .before .before .before .before .pre .1) (b .before .if1 .left) _ _ (c .before .before .if2 .taken) (c .take-to .ensures) (c .before .set-never .ensures))
     (λ c. search needs)
+    (λ c. let b = c .before .before .before .before in guard-always _ _ _ _ (b .before .before .before .pre .1) (b .if1 .left) _ (c .before .if3 .taken) (c .set-always .ensures))
     (λ c κs. search needs)
-    (λ c κs. search needs)
-    (λ c. let b = c .before .before .before .before in guard-always _ _ _ _ (b .before .before .before .before .pre .1) (b .before .if1 .left) _ _ (c .before .before .if3 .taken) (c .take-to2 .ensures) (c .before .set-always .ensures))
-    (λ c κs. search needs)
-    (λ c. let b = c .before .before .before .before .before in not-deep _ _ _ _ (b .before .before .before .before .pre .1) (b .before .if1 .left) _ _ (c .before .before .if4 .taken) (c .before .if5 .taken) (c .refuse2 .ensures))
+    (λ c. let b = c .before .before .before .before .before .before in not-deep _ _ _ _ (b .before .before .before .pre .1) (b .if1 .left) _ _ (c .before .before .if4 .taken) (c .before .if5 .taken) (c .refuse2 .ensures))
     (λ c. search needs)
     (λ c. search needs)
     (λ c κs. search needs)
     (λ c. search needs)
     (λ c. search needs)
-    (λ c. let b = c .before .before .before .before .before .before .before in not-up _ _ _ _ (b .before .before .before .before .pre .1) (b .before .if1 .left) _ _ (c .before .before .before .before .if4 .taken) (c .before .before .before .if5 .left) (c .enum-told .given .1) (c .before .before .read-guard .ensures))
+    (λ c. let b = c .before .before .before .before .before .before .before .before .before in not-up _ _ _ _ (b .before .before .before .pre .1) (b .if1 .left) _ _ (c .before .before .before .before .before .if4 .taken) (c .before .before .before .before .if5 .left) (c .enum-told2 .given .1) (c .before .before .read-guard .ensures))
     (λ c κs. search needs)
+    (λ c. let g = c .before .before in let b = g .before .before .before .before .before .before .before .before .before in not-done _ _ _ _ (b .before .before .before .pre .1) (b .if1 .left) _ _ _ (g .before .before .before .before .before .if4 .taken) (g .before .before .before .before .if5 .left) (g .enum-told .given .1) (g .before .before .read-guard .ensures) (c .set-not .ensures))
     (λ c κs. search needs)
-    (λ c. let g = c .before .before .before .before in let b = g .before .before .before .before .before .before .before in not-done _ _ _ _ (b .before .before .before .before .pre .1) (b .before .if1 .left) _ _ _ _ (g .before .before .before .before .if4 .taken) (g .before .before .before .if5 .left) (g .r .given .1) (g .before .before .read-guard .ensures) (c .take-to3 .ensures) (c .before .set-not .ensures))
-    (λ c κs. search needs)
-    (λ c. let b = c .before .before .before .before .before .before in open-deep _ _ _ _ (b .before .before .before .before .pre .1) (b .before .if1 .left) _ _ (c .before .before .if6 .taken) (c .before .if7 .taken) (c .refuse3 .ensures))
+    (λ c. let b = c .before .before .before .before .before .before .before in open-deep _ _ _ _ (b .before .before .before .pre .1) (b .if1 .left) _ _ (c .before .before .if6 .taken) (c .before .if7 .taken) (c .refuse3 .ensures))
     (λ c. search needs)
     (λ c. search needs)
     (λ c κs. search needs)
-    (λ c. let b = c .before .before .before .before .before .before in open-done _ _ _ _ (b .before .before .before .before .pre .1) (b .before .if1 .left) (c .read-open .result .read) (c .read-open .result .set) (c .before .before .if6 .taken) (c .before .if7 .left) (c .read-open .ensures))
+    (λ c. let b = c .before .before .before .before .before .before .before .before in open-done _ _ _ _ (b .before .before .before .pre .1) (b .if1 .left) (c .read-open .result) _ (c .before .before .before .if6 .taken) (c .before .before .if7 .left) (c .read-open .ensures))
     (λ c κs. search needs)
     (λ c κs. search needs)
-    (λ c. let n = c .before .before in let b = n .before .before .before .before .before in guard-fault _ _ _ _ (b .before .before .before .before .pre .1) (b .before .if1 .left) _ _ (n .before .before .before .before .if2 .left) (n .before .before .before .if3 .left) (n .before .before .if4 .left) (n .before .if6 .left) (sym (n .is-letter .ensures) ∙ not-true _ (c .before .if8 .taken)) (c .refuse4 .ensures))
+    (λ c. let n = c .before .before in let b = n .before .before .before .before .before .before in guard-fault _ _ _ _ (b .before .before .before .pre .1) (b .if1 .left) (n .before .before .before .before .if2 .left) (n .before .before .before .if3 .left) (n .before .before .if4 .left) (n .before .if6 .left) _ _ (sym (n .is-letter .ensures) ∙ not-true _ (c .before .if8 .taken)) (c .refuse4 .ensures))
     (λ c κs. search needs)
     (λ c. let l = c .run-end .ensures .low (c .before .before .before .before .before .before .before .before .before .before .before .pre .1) in omega arith)
     (λ c. let l = c .run-end .ensures .low (c .before .before .before .before .before .before .before .before .before .before .before .pre .1) in omega arith)
@@ -266,10 +248,9 @@ read-guard-closed M t =
     (λ c. search needs)
     (λ c. search needs)
     (λ c κs. search needs)
-    (λ c. let n = c .before .before .before .before .before .before .before in let b = n .before .before .before .before .before in name-unknown _ _ _ _ (b .before .before .before .before .pre .1) (b .before .if1 .left) _ _ (n .before .before .before .before .if2 .left) (n .before .before .before .if3 .left) (n .before .before .if4 .left) (n .before .if6 .left) (sym (n .is-letter .ensures) ∙ not-false _ (c .before .before .before .before .before .before .if8 .left)) (c .before .before .before .before .before .run-end .ensures) (c .before .before .before .find-name .ensures) (c .before .enum-told2 .given .1) (c .refuse5 .ensures))
+    (λ c. let n = c .before .before .before .before .before .before .before in let b = n .before .before .before .before .before .before in name-unknown _ _ _ _ (b .before .before .before .pre .1) (b .if1 .left) (n .before .before .before .before .if2 .left) (n .before .before .before .if3 .left) (n .before .before .if4 .left) (n .before .if6 .left) (sym (n .is-letter .ensures) ∙ not-false _ (c .before .before .before .before .before .before .if8 .left)) (c .before .before .before .before .before .run-end .ensures) (c .before .before .before .find-name .ensures) _ _ (c .before .enum-told3 .given .1) (c .refuse5 .ensures))
     (λ c κs. search needs)
-    (λ c κs. search needs)
-    (λ c. let f = c .before .before .before in let n = f .before .before .before .before .before .before in let b = n .before .before .before .before .before in name-known _ _ _ _ (b .before .before .before .before .pre .1) (b .before .if1 .left) _ _ (n .before .before .before .before .if2 .left) (n .before .before .before .if3 .left) (n .before .before .if4 .left) (n .before .if6 .left) (sym (n .is-letter .ensures) ∙ not-false _ (f .before .before .before .before .before .if8 .left)) (f .before .before .before .before .run-end .ensures) (f .before .before .find-name .ensures) (f .f .given .1) (c .take-to4 .ensures) (c .before .set-feature .ensures))
+    (λ c. let f = c .before .before in let n = f .before .before .before .before .before .before in let b = n .before .before .before .before .before .before in name-known _ _ _ _ (b .before .before .before .pre .1) (b .if1 .left) (n .before .before .before .before .if2 .left) (n .before .before .before .if3 .left) (n .before .before .if4 .left) (n .before .if6 .left) (sym (n .is-letter .ensures) ∙ not-false _ (f .before .before .before .before .before .if8 .left)) (f .before .before .before .before .run-end .ensures) (f .before .before .find-name .ensures) _ (f .f .given .1) (c .set-feature .ensures))
 
 read-open-closed : (M : Type 1) (t : ℕ) → read-open-lts.Closed (
   read-guard-below t,
@@ -297,21 +278,21 @@ read-open-closed M t =
     (λ c κs. search needs)
     (λ c. search needs)
     (λ c. search needs)
-    (λ c. handed-on _ _ _ _ (afterFirst _) (λ e bs. refl) _ _ (c .enum-told .given .1) (c .before .before .read-guard .ensures))
+    (λ c. handed-on _ _ _ _ (afterFirst _) (λ e bs. refl) _ _ _ (c .enum-told .given .1) (c .before .before .read-guard .ensures))
     (λ c κs. search needs)
     (λ c. let g = c .before .before .before in open-end _ _ _ _ _ _ (g .r .given .1) (g .before .before .read-guard .ensures) _ _ (c .before .if1 .taken) (c .refuse .ensures))
+    (λ c. let k = ahead _ _ _ _ _ _ (c .before .before .before .r .given .1) (c .before .before .before .before .before .read-guard .ensures) in omega arith)
     (λ c. let k = ahead _ _ _ _ _ _ (c .before .before .before .before .r .given .1) (c .before .before .before .before .before .before .read-guard .ensures) in omega arith)
-    (λ c. let k = ahead _ _ _ _ _ _ (c .before .before .before .before .before .r .given .1) (c .before .before .before .before .before .before .before .read-guard .ensures) in omega arith)
     (λ c κs. let k = ahead _ _ _ _ _ _ (c .before .before .before .before .before .r .given .1) (c .before .before .before .before .before .before .before .read-guard .ensures) in (omega arith, omega arith))
-    (λ c. let g = c .before .before .before .before .before .before in open-choice _ _ _ _ _ _ (g .r .given .1) (g .before .before .read-guard .ensures) (c .read-choice .result .read) (c .read-choice .result .set) (c .before .before .before .before .if1 .left) (c .before .if2 .taken) (c .read-choice .ensures))
-    (λ c. let k = ahead _ _ _ _ _ _ (c .before .before .before .before .before .before .r .given .1) (c .before .before .before .before .before .before .before .before .read-guard .ensures) in omega arith)
+    (λ c. let g = c .before .before .before .before .before .before in open-choice _ _ _ _ _ _ (g .r .given .1) (g .before .before .read-guard .ensures) (c .read-choice .result) _ (c .before .before .before .before .if1 .left) (c .before .before .if2 .taken) (c .read-choice .ensures))
+    (λ c. let k = ahead _ _ _ _ _ _ (c .before .before .before .before .before .r .given .1) (c .before .before .before .before .before .before .before .read-guard .ensures) in omega arith)
     (λ c κs. let k = ahead _ _ _ _ _ _ (c .before .before .before .before .before .before .r .given .1) (c .before .before .before .before .before .before .before .before .read-guard .ensures) in (omega arith, omega arith))
-    (λ c. let g = c .before .before .before .before .before .before .before in open-chain _ _ _ _ _ _ (g .r .given .1) (g .before .before .read-guard .ensures) conj (c .read-chain .result .read) (c .read-chain .result .set) (c .before .before .before .before .before .if1 .left) (c .before .if3 .taken) (c .read-chain .ensures))
-    (λ c. let k = ahead _ _ _ _ _ _ (c .before .before .before .before .before .before .before .r .given .1) (c .before .before .before .before .before .before .before .before .before .read-guard .ensures) in omega arith)
+    (λ c. let g = c .before .before .before .before .before .before .before in open-chain _ _ _ _ _ _ (g .r .given .1) (g .before .before .read-guard .ensures) conj (c .read-chain .result) _ (c .before .before .before .before .before .if1 .left) (c .before .before .if3 .taken) (c .read-chain .ensures))
+    (λ c. let k = ahead _ _ _ _ _ _ (c .before .before .before .before .before .before .r .given .1) (c .before .before .before .before .before .before .before .before .read-guard .ensures) in omega arith)
     (λ c κs. let k = ahead _ _ _ _ _ _ (c .before .before .before .before .before .before .before .r .given .1) (c .before .before .before .before .before .before .before .before .before .read-guard .ensures) in (omega arith, omega arith))
-    (λ c. let g = c .before .before .before .before .before .before .before .before in open-chain _ _ _ _ _ _ (g .r .given .1) (g .before .before .read-guard .ensures) disj (c .read-chain2 .result .read) (c .read-chain2 .result .set) (c .before .before .before .before .before .before .if1 .left) (c .before .if4 .taken) (c .read-chain2 .ensures))
+    (λ c. let g = c .before .before .before .before .before .before .before .before in open-chain _ _ _ _ _ _ (g .r .given .1) (g .before .before .read-guard .ensures) disj (c .read-chain2 .result) _ (c .before .before .before .before .before .before .if1 .left) (c .before .before .if4 .taken) (c .read-chain2 .ensures))
     (λ c κs. search needs)
-    (λ c. let g = c .before .before .before .before .before .before .before .before in open-fault _ _ _ _ _ _ (g .r .given .1) (g .before .before .read-guard .ensures) _ _ (c .before .before .before .before .before .before .if1 .left) (c .before .before .before .if2 .left) (c .before .before .if3 .left) (c .before .if4 .left) (c .refuse2 .ensures))
+    (λ c. let g = c .before .before .before .before .before .before .before in open-fault _ _ _ _ _ _ (g .r .given .1) (g .before .before .read-guard .ensures) _ _ (c .before .before .before .before .before .if1 .left) (c .before .before .before .if2 .left) (c .before .before .if3 .left) (c .before .if4 .left) (c .refuse2 .ensures))
 
 pub +read-chain+read-choice+read-guard+read-open-spec : {M : Type 1} → statement M
 +read-chain+read-choice+read-guard+read-open-spec =
