@@ -117,7 +117,7 @@ fn read_guard(
     let Found::At(i) = f else {
         return refuse(6, at);
     };
-    *set = set_feature(i);
+    lay_feature(i, set);
     GuardRead::Upto(e)
 }
 
@@ -243,10 +243,10 @@ fn set_always() -> [u64; 16]
     [0xffff_ffff_ffff_ffffu64; 16]
 }
 
-fn set_feature(i: usize) -> [u64; 16]
-    ensures { λ r. ⌜ Means r (Guard.feature i) ⌝ }
+fn lay_feature(i: usize, set: &mut [u64; 16])
+    ensures { λ _. ⌜ Means (now (set .exit)) (Guard.feature i) ⌝ }
 {
-    products::feature(i)
+    products::lay_feature(i, set);
 }
 
 fn set_not(a: [u64; 16]) -> [u64; 16]

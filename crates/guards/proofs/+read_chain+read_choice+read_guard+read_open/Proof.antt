@@ -29,7 +29,7 @@ use Rattle.guards.proofs.find_name.Reads as find-name-reads
 use Rattle.guards.proofs.refuse.Reads as refuse-reads
 use Rattle.guards.proofs.set_always.Reads as set-always-reads
 use Rattle.guards.proofs.set_choice.Reads as set-choice-reads
-use Rattle.guards.proofs.set_feature.Reads as set-feature-reads
+use Rattle.guards.proofs.lay_feature.Reads as lay-feature-reads
 use Rattle.guards.proofs.set_joined.Reads as set-joined-reads
 use Rattle.guards.proofs.set_never.Reads as set-never-reads
 use Rattle.guards.proofs.set_not.Reads as set-not-reads
@@ -184,8 +184,8 @@ read-guard-closed : (M : Type 1) (t : ℕ) → read-guard-lts.Closed (
   run-end-reads.Learnt,
   find-name-reads.Asked,
   find-name-reads.Learnt,
-  set-feature-reads.Asked,
-  set-feature-reads.Learnt,
+  lay-feature-reads.Asked,
+  lay-feature-reads.Learnt,
 ) (read-guard-at t) read-guard.Post M
 read-guard-closed M t =
     read-guard-lts.spec (
@@ -207,8 +207,8 @@ read-guard-closed M t =
       run-end-reads.Learnt,
       find-name-reads.Asked,
       find-name-reads.Learnt,
-      set-feature-reads.Asked,
-      set-feature-reads.Learnt,
+      lay-feature-reads.Asked,
+      lay-feature-reads.Learnt,
     )
     (read-guard-at t)
     read-guard.Post
@@ -250,7 +250,7 @@ read-guard-closed M t =
     (λ c κs. search needs)
     (λ c. let n = c .before .before .before .before .before .before .before in let b = n .before .before .before .before .before .before in name-unknown _ _ _ _ (b .before .before .before .pre .1) (b .if1 .left) (n .before .before .before .before .if2 .left) (n .before .before .before .if3 .left) (n .before .before .if4 .left) (n .before .if6 .left) (sym (n .is-letter .ensures) ∙ not-false _ (c .before .before .before .before .before .before .if8 .left)) (c .before .before .before .before .before .run-end .ensures) (c .before .before .before .find-name .ensures) _ _ (c .before .enum-told3 .given .1) (c .refuse5 .ensures))
     (λ c κs. search needs)
-    (λ c. let f = c .before .before in let n = f .before .before .before .before .before .before in let b = n .before .before .before .before .before .before in name-known _ _ _ _ (b .before .before .before .pre .1) (b .if1 .left) (n .before .before .before .before .if2 .left) (n .before .before .before .if3 .left) (n .before .before .if4 .left) (n .before .if6 .left) (sym (n .is-letter .ensures) ∙ not-false _ (f .before .before .before .before .before .if8 .left)) (f .before .before .before .before .run-end .ensures) (f .before .before .find-name .ensures) _ (f .f .given .1) (c .set-feature .ensures))
+    (λ c. let f = c .before .before .before in let n = f .before .before .before .before .before .before in let b = n .before .before .before .before .before .before in name-known _ _ _ _ (b .before .before .before .pre .1) (b .if1 .left) (n .before .before .before .before .if2 .left) (n .before .before .before .if3 .left) (n .before .before .if4 .left) (n .before .if6 .left) (sym (n .is-letter .ensures) ∙ not-false _ (f .before .before .before .before .before .if8 .left)) (f .before .before .before .before .run-end .ensures) (f .before .before .find-name .ensures) _ (f .f .given .1) (c .lay-feature .ensures))
 
 read-open-closed : (M : Type 1) (t : ℕ) → read-open-lts.Closed (
   read-guard-below t,
