@@ -191,7 +191,7 @@ abbrev pub Blank : Tables → Type 0
 Blank T = T ≡ blankTables (length (T .moves)) (length (T .moveGuards)) (length (T .stops)) (length (T .stopGuards))
 
 going-from : {s : List ℕ} {T : Tables} (m g t h : ℕ) → T ≡ blankTables m g t h → getD s (length s - 1) 0 ≡ 10
-    → Going s T (replicate 2048 0) (record { section = 0; valid = 0; features = 0; start = 0; moves = 0; stops = 0 }) 1 0
+    → Going s T (replicate 128 0) (record { section = 0; valid = 0; features = 0; start = 0; moves = 0; stops = 0 }) 1 0
 unfolding Means holds
 going-from m g t h b e =
     rw b
@@ -216,7 +216,7 @@ going-from m g t h b e =
     })
 
 pub going-start : {s : List ℕ} {T : Tables} → Blank T → getD s (length s - 1) 0 ≡ 10
-    → Going s T (replicate 2048 0) (record { section = 0; valid = 0; features = 0; start = 0; moves = 0; stops = 0 }) 1 0
+    → Going s T (replicate 128 0) (record { section = 0; valid = 0; features = 0; start = 0; moves = 0; stops = 0 }) 1 0
 going-start {T = T} b e = going-from (length (T .moves)) (length (T .moveGuards)) (length (T .stops)) (length (T .stopGuards)) b e
 
 module _ {s : List ℕ} {T : Tables} {seen : List ℕ} {c : Progress} {n at : ℕ} (go : Going s T seen c n at) where

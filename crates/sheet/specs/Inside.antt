@@ -3,8 +3,9 @@
 use mathlib.Core.Bool.{Bool, false, not}
 use mathlib.Core.List.{List, [], _∷_}
 use mathlib.Core.Path.{_≡_}
-use Prim.Native.Nat.{ℕ, _+_, _*_, _%_, _≤_, _<_}
-use lib.ListN.{length, getD}
+use Prim.Native.Nat.{ℕ, _+_, _-_, _*_, _%_, _≤_, _<_}
+use lib.ListN.{length, drop}
+use Rattle.products.specs.Sets.{has}
 use Rattle.fields.specs.Bytes.{isAction, readState}
 use Rattle.guards.specs.Guard.{Means}
 use Rattle.sheet.specs.declared.Progress.{Progress}
@@ -18,19 +19,20 @@ use Rattle.sheet.specs.Sheet.{Move, Stop, Sheet}
 use Rattle.sheet.specs.Reading.{State, Answer, kept, refused, refuseIf, stated, moved, stopped}
 use Rattle.sheet.specs.Tables.{Tables, Filled, StandsFor}
 
--- ---- marks: 2,048 places, of which each triple of from, action and to has one
+-- ---- marks: 8,192 places, of which each triple of from, action and to has one; place h is bit h % 64 of word h / 64
 
 unfoldable pub mixed : ℕ → List ℕ → ℕ
 mixed h [] = h
-mixed h (b ∷ bs) = (mixed h bs * 37 + b) % 2048
+mixed h (b ∷ bs) = (mixed h bs * 37 + b) % 8192
 
-abbrev pub placeOf : ℕ → List ℕ → ℕ → ℕ
-placeOf from action to = mixed (from % 32 * 64 + to % 64) action
+-- of the action the last three bytes count
+unfoldable pub placeOf : ℕ → List ℕ → ℕ → ℕ
+placeOf from action to = mixed (from % 64 * 128 + to % 64) (drop (length action - 3) action)
 
 -- a triple whose place has no mark has not come
 pub record Marked (seen : List ℕ) (ms : List Move) : Type 0 where
-  pub long : length seen ≡ 2048
-  pub new : (from : ℕ) (action : List ℕ) (to : ℕ) → getD seen (placeOf from action to) 0 ≡ 0 → moved from action to ms ≡ false
+  pub long : length seen ≡ 128
+  pub new : (from : ℕ) (action : List ℕ) (to : ℕ) → has seen (placeOf from action to) ≡ 0 → moved from action to ms ≡ false
 
 -- the answer whether a triple has come, and the marks once it has come again
 pub record Tells (seen : List ℕ) (from : ℕ) (action : List ℕ) (to : ℕ) (ms : List Move) (r : Bool) : Type 0 where

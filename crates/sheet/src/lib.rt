@@ -213,7 +213,7 @@ fn read_lines(
     requires { ⌜ (min (length (now text)) 2048 ≤ 8 * length (now moves)) × (min (length (now text)) 2048 ≤ 8 * length (now «move_guards»)) × (min (length (now text)) 384 ≤ 6 * length (now stops)) × (min (length (now text)) 384 ≤ 6 * length (now «stop_guards»)) ⌝ }
     ensures { λ r. ⌜ Ends (now (text .entry)) (tables (now (names .exit)) (now (valid .exit)) (now (moves .exit)) (now («move_guards» .exit)) (now (stops .exit)) (now («stop_guards» .exit))) r (readLines 1 0 nothing (lines (now (text .entry)))) ⌝ }
 {
-    let mut seen = [0u8; 2048];
+    let mut seen = [0u64; 128];
     let mut c = no_lines();
     let mut at = 0;
     let mut number = 1;

@@ -43,7 +43,7 @@ pub(crate) fn read_line(
     move_guards: &mut [[u64; 16]],
     stops: &mut [[usize; 2]],
     stop_guards: &mut [[u64; 16]],
-    seen: &mut [u8; 2048],
+    seen: &mut [u64; 128],
 ) -> LineRead
     requires { ⌜ (place .at ≤ place .end) × (place .end ≤ length (now text)) × (c .moves * 8 + c .stops * 6 ≤ place .at) ⌝ }
     requires { ⌜ (min (length (now text)) 2048 ≤ 8 * length (now moves)) × (min (length (now text)) 2048 ≤ 8 * length (now «move_guards»)) × (min (length (now text)) 384 ≤ 6 * length (now stops)) × (min (length (now text)) 384 ≤ 6 * length (now «stop_guards»)) ⌝ }
@@ -237,7 +237,7 @@ fn read_move(
     names: &[[usize; 2]; 10],
     moves: &mut [[usize; 6]],
     move_guards: &mut [[u64; 16]],
-    seen: &mut [u8; 2048],
+    seen: &mut [u64; 128],
 ) -> LineRead
     requires { ⌜ (at + length (now rest) ≤ length (now text)) × (c .moves * 8 + 5 + length (now rest) ≤ length (now text)) ⌝ }
     requires { ⌜ (min (length (now text)) 2048 ≤ 8 * length (now moves)) × (min (length (now text)) 2048 ≤ 8 * length (now «move_guards»)) ⌝ }
@@ -304,7 +304,7 @@ fn keep_move(
     names: &[[usize; 2]; 10],
     moves: &mut [[usize; 6]],
     move_guards: &mut [[u64; 16]],
-    seen: &mut [u8; 2048],
+    seen: &mut [u64; 128],
 ) -> LineRead
     requires { ⌜ (place + length (now action) ≤ length (now text)) × (c .moves < 256) × (c .moves < length (now moves)) × (c .moves < length (now «move_guards»)) ⌝ }
     ensures { λ r. ⌜ ((v : List ℕ) (t h : List (List ℕ)) (st : State) → Stands (now (text .entry)) (tables (now (names .entry)) v (now (moves .entry)) (now («move_guards» .entry)) t h) (now (seen .entry)) c st → Lies (now (text .entry)) (now (action .entry)) place → Says (now (text .entry)) (tables (now (names .entry)) v (now (moves .exit)) (now («move_guards» .exit)) t h) (now (seen .exit)) r (guardedMove line st from (now (action .entry)) place to (now (guard .entry)))) ⌝ }

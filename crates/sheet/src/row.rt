@@ -14,7 +14,7 @@ pub(crate) fn is_repeat(
     text: &[u8],
     moves: &[[usize; 6]],
     count: usize,
-    seen: &mut [u8; 2048],
+    seen: &mut [u64; 128],
     from: usize,
     action: &[u8],
     to: usize,
@@ -22,20 +22,24 @@ pub(crate) fn is_repeat(
     ensures { λ r. ⌜ ((ms : List Move) → Rows (λ i m. MoveRow (now (text .entry)) (getD (now (moves .entry)) i List.[]) m) (min count (length (now (moves .entry)))) ms → Marked (now (seen .entry)) ms → Tells (now (seen .exit)) from (now (action .entry)) to ms r) ⌝ }
 {
     let h = place_of(from, action, to);
-    if seen[h] == 0 {
-        seen[h] = 1;
+    let w = h / 64;
+    let b = h % 64;
+    let word = seen[w];
+    if (word >> b) % 2 == 0 {
+        seen[w] = word | (1 << b);
         return false;
     }
     has_move(text, moves, count, from, action, to)
 }
 
-// Where a triple has its mark.
+// Where a triple has its mark: its states and the last three bytes of its action count.
 fn place_of(from: usize, action: &[u8], to: usize) -> usize
     ensures { λ r. ⌜ r ≡ placeOf from (now (action .entry)) to ⌝ }
 {
-    let mut h = from % 32 * 64 + to % 64;
+    let low = action.len() - counts::at_most(action.len(), 3);
+    let mut h = from % 64 * 128 + to % 64;
     let mut i = action.len();
-    while 0 < i {
+    while low < i {
         i -= 1;
         h = mix(h, action[i]);
     }
@@ -43,10 +47,10 @@ fn place_of(from: usize, action: &[u8], to: usize) -> usize
 }
 
 fn mix(h: usize, b: u8) -> usize
-    requires { ⌜ h < 2048 ⌝ }
-    ensures { λ r. ⌜ r ≡ (h * 37 + b) % 2048 ⌝ }
+    requires { ⌜ h < 8192 ⌝ }
+    ensures { λ r. ⌜ r ≡ (h * 37 + b) % 8192 ⌝ }
 {
-    (h * 37 + b as usize) % 2048
+    (h * 37 + b as usize) % 8192
 }
 
 // Whether a move's row has this from, action and to.

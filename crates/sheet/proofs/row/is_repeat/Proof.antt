@@ -1,14 +1,21 @@
 -- `row::is_repeat` meets its contract: a triple whose place has no mark is new. Assumes nothing.
 use borrow.Author.Needs.{needs}
-use Rattle.sheet.proofs.Marks.{place-small, tells-new, tells-seen}
+use native.Mathlib.Omega.{arith}
+use Rattle.sheet.proofs.Marks.{word-small, tells-new, tells-seen}
 use Rattle.sheet.proofs.row.is_repeat.Statement.{statement}
 use Rattle.sheet.proofs.row.is_repeat.Tie as tie
 
-element-copy-out-if1 : tie.Need-element-copy-out-if1
-element-copy-out-if1 c = rw (c .place-of .ensures) (place-small _ _ _)
+mul-word : tie.Need-mul-word
+mul-word c = omega (arith, word-small _ _ _ (c .place-of .ensures))
+
+element-copy-out-word : tie.Need-element-copy-out-word
+element-copy-out-word c = word-small _ _ _ (c .place-of .ensures)
+
+mul-seen : tie.Need-mul-seen
+mul-seen c = omega (arith, word-small _ _ _ (c .before .before .place-of .ensures))
 
 element-write-seen : tie.Need-element-write-seen
-element-write-seen c = rw (c .before .before .place-of .ensures) (place-small _ _ _)
+element-write-seen c = word-small _ _ _ (c .before .before .place-of .ensures)
 
 returns : tie.Need-returns
 returns c = λ ms rows k. tells-new _ _ _ (c .before .before .place-of .ensures) k (c .if1 .taken)
@@ -21,7 +28,11 @@ is-repeat-spec =
     tie.close
     (tie.spec
     (λ c κs. search needs)
-    element-copy-out-if1
+    mul-word
+    element-copy-out-word
+    (λ c. search needs)
+    (λ c. search needs)
+    mul-seen
     element-write-seen
     returns
     (λ c κs. search needs)
