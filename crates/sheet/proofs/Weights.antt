@@ -1,41 +1,57 @@
--- A move line has at least 8 bytes and a stop line at least 6: so the lines so far have at least 8 bytes for each move and 6 for each stop.
--- Assumes nothing.
-use mathlib.Core.Path.{_≡_, refl}
+-- A move line has at least 13 bytes and a stop line at least 9, the line end counted: so the lines so far have at least 13 bytes for each move
+-- and 9 for each stop. Assumes nothing.
+use mathlib.Core.Path.{_≡_, refl, ap}
 use mathlib.Core.Bool.{Bool, true, false, not}
 use mathlib.Core.List.{List, [], _∷_}
 use Prim.Native.Nat.{ℕ, suc, _+_, _*_, _≤_}
 use native.Mathlib.Omega.{arith}
+use borrow.Author.Tests.{not-false}
 use lib.Dec.{eqb, leb}
 use lib.ListN.{length}
-use Rattle.fields.specs.Bytes.{sameBytes, isName, isAction}
+use Rattle.fields.specs.Bytes.{sameBytes, isName, isAction, readState}
 use Rattle.fields.specs.Cutting.{onto, cut, fields, One, only, notOne, asOne, asTwo, asFour}
-use Rattle.guards.specs.Reading.{number}
-use Rattle.sheet.specs.Sheet.{Sheet, names}
-use Rattle.sheet.specs.Reading.{State, kept, isKnown, moved, stopped, editionWord, ftsLine, featureLine, validLine, startLine, guardedMove, moveLine, stopLine, kindIn, byKind, byWord, readLine}
+use Rattle.values.proofs.Names.{action-names}
+use Rattle.guards.specs.Guard.{Guard}
+use Rattle.guards.specs.Reading.{number, readGuard, readWhole}
+use Rattle.sheet.specs.Sheet.{Feature, Sheet, names}
+use Rattle.sheet.specs.Reading.{State, Answer, kept, stated, guarded, isKnown, moved, stopped, editionWord, ftsLine, featureLine, validLine, startLine, guardedMove, moveLine, stopLine, kindIn, byKind, byWord, readLine}
 use Rattle.sheet.proofs.LineKinds.{by-kind}
 use Rattle.sheet.proofs.Accepted.{Told, keeps, refuses, told-kept, told-if, told-state, told-guard}
 
--- ---- the fields of a line have no more bytes than the line, with a tab before each but the first
+-- ---- the fields of a line, each with the tab or the line end behind it, have the bytes of the line
 
 abbrev size : List (List ℕ) → ℕ
 size [] = 0
-size (w ∷ fs) = length w + length fs
+size (f ∷ fs) = suc (length f + size fs)
 
-onto-size : (t : Bool) (b : ℕ) (fs : List (List ℕ)) → size (onto t b fs) ≤ suc (size fs)
-onto-size true b [] = omega arith
-onto-size true b (w ∷ fs) = omega arith
-onto-size false b [] = omega arith
-onto-size false b (w ∷ fs) = omega arith
+onto-size : (t : Bool) (b : ℕ) (fs : List (List ℕ)) → 1 ≤ size fs → size (onto t b fs) ≡ suc (size fs)
+onto-size true b fs h = omega arith
+onto-size false b [] h = absurd (omega arith)
+onto-size false b (f ∷ fs) h = omega arith
 
-fields-size : (l : List ℕ) → size (fields l) ≤ length l
+fields-size : (l : List ℕ) → size (fields l) ≡ length l + 1
 unfolding cut
-fields-size [] = omega arith
-fields-size (b ∷ l) = let z = onto-size (eqb b 9) b (fields l) in let y = fields-size l in omega arith
+fields-size [] = refl
+fields-size (b ∷ l) = let y = fields-size l in omega (arith, onto-size (eqb b 9) b (fields l) (omega arith))
+
+-- ---- a state and a guard have a byte at least
+
+module _ {P : State → Type 0} where
+  some-state : {k : ℕ → Answer State} (n : ℕ) (x : List ℕ) → ((q : ℕ) → 1 ≤ length x → Told P (k q)) → Told P (stated n (readState x) k)
+  unfolding readState
+  some-state n [] f = refuses 4 n refl
+  some-state n (b ∷ x) f = told-state n (b ∷ x) (λ q small text. f q (omega arith))
+
+  some-guard : {k : Guard → Answer State} (n : ℕ) (fs : List Feature) (x : List ℕ) → ((g : Guard) → 1 ≤ length x → Told P (k g))
+      → Told P (guarded n (readWhole (names fs) x) k)
+  unfolding readWhole readGuard
+  some-guard n fs [] f = refuses 5 n refl
+  some-guard n fs (b ∷ x) f = told-guard n fs (b ∷ x) (λ g good text. f g (omega arith))
 
 -- ---- what the moves and stops weigh
 
 abbrev weight : Sheet → ℕ
-weight s = length (s .moves) * 8 + length (s .stops) * 6
+weight s = length (s .moves) * 13 + length (s .stops) * 9
 
 pub record Weighs (most : ℕ) (st : State) : Type 0 where
   pub is : weight (st .sheet) ≤ most
@@ -64,7 +80,7 @@ module _ (n at : ℕ) (st : State) (k : ℕ) where
   start-weighs notOne = refuses 3 n refl
   start-weighs (only x) = told-state n x (λ q small text. keeps (record { is = omega arith }))
 
-  move-weighs : (fs : List (List ℕ)) → 4 + length fs ≤ k → Told (Weighs (weight (st .sheet) + k)) (moveLine n at st (asFour fs))
+  move-weighs : (fs : List (List ℕ)) → 5 + size fs ≤ k → Told (Weighs (weight (st .sheet) + k)) (moveLine n at st (asFour fs))
   unfolding moveLine guardedMove
   move-weighs [] h = refuses 3 n refl
   move-weighs (f ∷ []) h = refuses 3 n refl
@@ -72,35 +88,35 @@ module _ (n at : ℕ) (st : State) (k : ℕ) where
   move-weighs (f ∷ a ∷ t ∷ []) h = refuses 3 n refl
   move-weighs (f ∷ a ∷ t ∷ g ∷ []) h =
       told-if 8 n (leb 256 (length (st .sheet .moves))) refl
-      (λ few. told-state n f
-      (λ from lf ef. told-if 4 n (not (isAction a)) refl
-      (λ act. told-state n t
-      (λ to lt et. told-guard n (st .sheet .features) g
-      (λ guard good eg. told-if 9 n (moved from a to (st .sheet .moves)) refl (λ new. keeps (record { is = omega arith })))))))
+      (λ few. some-state n f
+      (λ from lf. told-if 4 n (not (isAction a)) refl
+      (λ act. let la = action-names a (not-false (isAction a) act) .1 in some-state n t
+      (λ to lt. some-guard n (st .sheet .features) g
+      (λ guard lg. told-if 9 n (moved from a to (st .sheet .moves)) refl (λ new. keeps (record { is = omega arith })))))))
   move-weighs (f ∷ a ∷ t ∷ g ∷ x ∷ fs) h = refuses 3 n refl
 
-  stop-weighs : (fs : List (List ℕ)) → 4 + length fs ≤ k → Told (Weighs (weight (st .sheet) + k)) (stopLine n st (asTwo fs))
+  stop-weighs : (fs : List (List ℕ)) → 5 + size fs ≤ k → Told (Weighs (weight (st .sheet) + k)) (stopLine n st (asTwo fs))
   unfolding stopLine
   stop-weighs [] h = refuses 3 n refl
   stop-weighs (q ∷ []) h = refuses 3 n refl
   stop-weighs (q ∷ g ∷ []) h =
-      told-state n q
-      (λ state small es. told-guard n (st .sheet .features) g
-      (λ guard good eg. told-if 9 n (stopped state (st .sheet .stops)) refl (λ new. keeps (record { is = omega arith }))))
+      some-state n q
+      (λ state lq. some-guard n (st .sheet .features) g
+      (λ guard lg. told-if 9 n (stopped state (st .sheet .stops)) refl (λ new. keeps (record { is = omega arith }))))
   stop-weighs (q ∷ g ∷ x ∷ fs) h = refuses 3 n refl
 
-  kind-weighs : (w : List ℕ) (fs : List (List ℕ)) → length w + length fs ≤ k → Told (Weighs (weight (st .sheet) + k)) (byKind (kindIn (st .section) w) n at st fs)
+  kind-weighs : (w : List ℕ) (fs : List (List ℕ)) → suc (length w + size fs) ≤ k → Told (Weighs (weight (st .sheet) + k)) (byKind (kindIn (st .section) w) n at st fs)
   kind-weighs w fs h =
       by-kind (st .section) w (λ k′. Told (Weighs (weight (st .sheet) + k)) (byKind k′ n at st fs)) (λ e x. fts-weighs (asOne fs))
       (λ e x. feature-weighs (asOne fs)) (λ e x. valid-weighs (asOne fs)) (λ e x. start-weighs (asOne fs))
-      (λ e x. stop-weighs fs (rw x at h)) (λ e x. move-weighs fs (rw x at h)) (refuses 3 n refl)
+      (λ e x. stop-weighs fs (omega (arith, ap length x))) (λ e x. move-weighs fs (omega (arith, ap length x))) (refuses 3 n refl)
 
 word-weighs : (n at : ℕ) (st : State) (k : ℕ) (fs : List (List ℕ)) → size fs ≤ k → Told (Weighs (weight (st .sheet) + k)) (byWord n at st fs)
 word-weighs n at st k [] h = refuses 3 n refl
 word-weighs n at st k (w ∷ fs) h = kind-weighs n (at + length w + 1) st k w fs h
 
--- a line adds no more than its bytes
+-- a line adds no more than its bytes and its end
 pub line-weighs : (n at : ℕ) (st : State) (l : List ℕ) {u : State} → readLine n at st l ≡ kept u
-    → length (u .sheet .moves) * 8 + length (u .sheet .stops) * 6 ≤ length (st .sheet .moves) * 8 + length (st .sheet .stops) * 6 + length l
+    → length (u .sheet .moves) * 13 + length (u .sheet .stops) * 9 ≤ length (st .sheet .moves) * 13 + length (st .sheet .stops) * 9 + (length l + 1)
 unfolding readLine
-line-weighs n at st l e = told-kept (word-weighs n at st (length l) (fields l) (fields-size l)) e .is
+line-weighs n at st l e = told-kept (word-weighs n at st (length l + 1) (fields l) (omega (arith, fields-size l))) e .is

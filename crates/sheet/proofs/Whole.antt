@@ -31,7 +31,6 @@ use Rattle.sheet.specs.Reading.{State, Answer, refused, goOn, kindIn, by
 use Rattle.sheet.specs.Tables.{Tables, tables, blankTables, Lies, ReadsSheet}
 use Rattle.sheet.specs.Inside.{Stands, Says, SaysIn, Ends, EndsIn}
 use Rattle.sheet.proofs.Rows.{rows-length, table-blank, own-blank}
-use Rattle.sheet.proofs.LineKinds.{by-kind}
 use Rattle.sheet.proofs.Marks.{marked-none}
 use Rattle.sheet.proofs.ValidProducts.{none-true, valid-found}
 use Rattle.sheet.proofs.Lines.{features-counted, filled-still}
@@ -86,30 +85,6 @@ pub rest-lies : (s : List ℕ) (at e : ℕ) → at ≤ e → e ≤ length s → 
 rest-lies s at e h k w m =
     let z : at + (w + 1) ≡ at + w + 1 = omega arith in
     subst (Lies s (part (part s at e) (w + 1) (length (part s at e)))) z (lies-part (w + 1) (length (part s at e)) (line-lies s at e h k) (omega arith) (omega arith))
-
--- how many bytes the word of a line has at least: those of moves and stops have four
-abbrev pub wordy : LineKind → ℕ
-wordy Fts = 0
-wordy Feature = 0
-wordy Valid = 0
-wordy Start = 0
-wordy Move = 4
-wordy Stop = 4
-wordy Misplaced = 0
-
-word-long : (n : ℕ) (w : List ℕ) → wordy (kindIn n w) ≤ length w
-word-long n w =
-    by-kind n w (λ k. wordy k ≤ length w) (λ a b. omega arith) (λ a b. omega arith) (λ a b. omega arith) (λ a b. omega arith)
-    (λ a b. omega (arith, ap length b)) (λ a b. omega (arith, ap length b)) (omega arith)
-
--- what stands behind the word and its tab is so much shorter than the sheet
-pub word-room : (s : List ℕ) (at e : ℕ) → at ≤ e → e ≤ length s → (w : ℕ) → w < length (part s at e) → (n : ℕ) {k m : LineKind}
-    → k ≡ kindIn n (part (part s at e) 0 w) → k ≡ m → at + wordy m + 1 + length (part (part s at e) (w + 1) (length (part s at e))) ≤ length s
-word-room s at e h i w l n {m = m} d f =
-    let z = rest-lies s at e h i w l .within in
-    let y = part-length (part s at e) 0 w (omega arith) in
-    let x : wordy m ≤ length (part (part s at e) 0 w) = rw (sym f ∙ d) (word-long n (part (part s at e) 0 w)) in
-    omega arith
 
 -- ---- the end of the sheet
 
@@ -184,7 +159,7 @@ pub record Going (s : List ℕ) (T : Tables) (seen : List ℕ) (c : Progress) (n
   pub ends : getD s (length s - 1) 0 ≡ 10
   pub within : at ≤ length s
   pub few : n ≤ at + 1
-  pub light : c .moves * 8 + c .stops * 6 ≤ at
+  pub light : c .moves * 13 + c .stops * 9 ≤ at
 
 -- no row of any table, whatever the lengths
 abbrev pub Blank : Tables → Type 0

@@ -92,7 +92,8 @@ pub fn read_sheet(
 }
 
 // The same for tables that are blank already, and that have rows enough for the text: a move line has
-// at least 8 bytes and a stop line at least 6, and a sheet has at most 256 and 64 of them.
+// at least 13 bytes and a stop line at least 9, its end counted, and a sheet has at most 256 and 64 of
+// them.
 pub fn read_blank(
     text: &[u8],
     names: &mut [[usize; 2]; 10],
@@ -103,7 +104,7 @@ pub fn read_blank(
     stop_guards: &mut [[u64; 16]],
 ) -> SheetRead
     requires { ⌜ tables (now names) (now valid) (now moves) (now «move_guards») (now stops) (now «stop_guards») ≡ blankTables (length (now moves)) (length (now «move_guards»)) (length (now stops)) (length (now «stop_guards»)) ⌝ }
-    requires { ⌜ (min (length (now text)) 2048 ≤ 8 * length (now moves)) × (min (length (now text)) 2048 ≤ 8 * length (now «move_guards»)) × (min (length (now text)) 384 ≤ 6 * length (now stops)) × (min (length (now text)) 384 ≤ 6 * length (now «stop_guards»)) ⌝ }
+    requires { ⌜ (min (length (now text)) 3328 ≤ 13 * length (now moves)) × (min (length (now text)) 3328 ≤ 13 * length (now «move_guards»)) × (min (length (now text)) 576 ≤ 9 * length (now stops)) × (min (length (now text)) 576 ≤ 9 * length (now «stop_guards»)) ⌝ }
     ensures { λ r. ⌜ ReadsSheet (now (text .entry)) (tables (now (names .exit)) (now (valid .exit)) (now (moves .exit)) (now («move_guards» .exit)) (now (stops .exit)) (now («stop_guards» .exit))) r ⌝ }
 {
     if MOST_BYTES < text.len() {
@@ -210,7 +211,7 @@ fn read_lines(
     stop_guards: &mut [[u64; 16]],
 ) -> SheetRead
     requires { ⌜ (tables (now names) (now valid) (now moves) (now «move_guards») (now stops) (now «stop_guards») ≡ blankTables (length (now moves)) (length (now «move_guards»)) (length (now stops)) (length (now «stop_guards»))) × (getD (now text) (length (now text) - 1) 0 ≡ 10) ⌝ }
-    requires { ⌜ (min (length (now text)) 2048 ≤ 8 * length (now moves)) × (min (length (now text)) 2048 ≤ 8 * length (now «move_guards»)) × (min (length (now text)) 384 ≤ 6 * length (now stops)) × (min (length (now text)) 384 ≤ 6 * length (now «stop_guards»)) ⌝ }
+    requires { ⌜ (min (length (now text)) 3328 ≤ 13 * length (now moves)) × (min (length (now text)) 3328 ≤ 13 * length (now «move_guards»)) × (min (length (now text)) 576 ≤ 9 * length (now stops)) × (min (length (now text)) 576 ≤ 9 * length (now «stop_guards»)) ⌝ }
     ensures { λ r. ⌜ Ends (now (text .entry)) (tables (now (names .exit)) (now (valid .exit)) (now (moves .exit)) (now («move_guards» .exit)) (now (stops .exit)) (now («stop_guards» .exit))) r (readLines 1 0 nothing (lines (now (text .entry)))) ⌝ }
 {
     let mut seen = [0u64; 128];

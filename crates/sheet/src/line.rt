@@ -45,8 +45,8 @@ pub(crate) fn read_line(
     stop_guards: &mut [[u64; 16]],
     seen: &mut [u64; 128],
 ) -> LineRead
-    requires { ⌜ (place .at ≤ place .end) × (place .end ≤ length (now text)) × (c .moves * 8 + c .stops * 6 ≤ place .at) ⌝ }
-    requires { ⌜ (min (length (now text)) 2048 ≤ 8 * length (now moves)) × (min (length (now text)) 2048 ≤ 8 * length (now «move_guards»)) × (min (length (now text)) 384 ≤ 6 * length (now stops)) × (min (length (now text)) 384 ≤ 6 * length (now «stop_guards»)) ⌝ }
+    requires { ⌜ (place .at ≤ place .end) × (place .end ≤ length (now text)) × (c .moves * 13 + c .stops * 9 ≤ place .at) ⌝ }
+    requires { ⌜ (min (length (now text)) 3328 ≤ 13 * length (now moves)) × (min (length (now text)) 3328 ≤ 13 * length (now «move_guards»)) × (min (length (now text)) 576 ≤ 9 * length (now stops)) × (min (length (now text)) 576 ≤ 9 * length (now «stop_guards»)) ⌝ }
     ensures { λ r. ⌜ ((st : State) → Stands (now (text .entry)) (tables (now (names .entry)) (now (valid .entry)) (now (moves .entry)) (now («move_guards» .entry)) (now (stops .entry)) (now («stop_guards» .entry))) (now (seen .entry)) c st → Says (now (text .entry)) (tables (now (names .exit)) (now (valid .exit)) (now (moves .exit)) (now («move_guards» .exit)) (now (stops .exit)) (now («stop_guards» .exit))) (now (seen .exit)) r (readLine (place .number) (place .at) st (part (now (text .entry)) (place .at) (place .end)))) ⌝ }
 {
     let at = place.at;
@@ -239,8 +239,8 @@ fn read_move(
     move_guards: &mut [[u64; 16]],
     seen: &mut [u64; 128],
 ) -> LineRead
-    requires { ⌜ (at + length (now rest) ≤ length (now text)) × (c .moves * 8 + 5 + length (now rest) ≤ length (now text)) ⌝ }
-    requires { ⌜ (min (length (now text)) 2048 ≤ 8 * length (now moves)) × (min (length (now text)) 2048 ≤ 8 * length (now «move_guards»)) ⌝ }
+    requires { ⌜ (at + length (now rest) ≤ length (now text)) × (c .moves * 13 < length (now text)) ⌝ }
+    requires { ⌜ (min (length (now text)) 3328 ≤ 13 * length (now moves)) × (min (length (now text)) 3328 ≤ 13 * length (now «move_guards»)) ⌝ }
     ensures { λ r. ⌜ ((v : List ℕ) (t h : List (List ℕ)) (st : State) → Stands (now (text .entry)) (tables (now (names .entry)) v (now (moves .entry)) (now («move_guards» .entry)) t h) (now (seen .entry)) c st → Lies (now (text .entry)) (now (rest .entry)) at → Says (now (text .entry)) (tables (now (names .entry)) v (now (moves .exit)) (now («move_guards» .exit)) t h) (now (seen .exit)) r (moveLine line at st (asFour (fields (now (rest .entry)))))) ⌝ }
 {
     let cut = cutting::cut_four(rest);
@@ -341,8 +341,8 @@ fn read_stop(
     stops: &mut [[usize; 2]],
     stop_guards: &mut [[u64; 16]],
 ) -> LineRead
-    requires { ⌜ c .stops * 6 + 5 + length (now rest) ≤ length (now text) ⌝ }
-    requires { ⌜ (min (length (now text)) 384 ≤ 6 * length (now stops)) × (min (length (now text)) 384 ≤ 6 * length (now «stop_guards»)) ⌝ }
+    requires { ⌜ c .stops * 9 < length (now text) ⌝ }
+    requires { ⌜ (min (length (now text)) 576 ≤ 9 * length (now stops)) × (min (length (now text)) 576 ≤ 9 * length (now «stop_guards»)) ⌝ }
     ensures { λ r. ⌜ ((v : List ℕ) (m g : List (List ℕ)) (seen : List ℕ) (st : State) → Stands (now (text .entry)) (tables (now (names .entry)) v m g (now (stops .entry)) (now («stop_guards» .entry))) seen c st → Says (now (text .entry)) (tables (now (names .entry)) v m g (now (stops .exit)) (now («stop_guards» .exit))) seen r (stopLine line st (asTwo (fields (now (rest .entry)))))) ⌝ }
 {
     let cut = cutting::cut_two(rest);

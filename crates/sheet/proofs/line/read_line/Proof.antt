@@ -4,7 +4,7 @@ use mathlib.Core.Path.{refl}
 use native.Mathlib.Omega.{arith}
 use Rattle.fields.specs.Bytes.{part}
 use Rattle.sheet.proofs.Lines.{refuses}
-use Rattle.sheet.proofs.Whole.{line-alone, line-of, rest-lies, word-room}
+use Rattle.sheet.proofs.Whole.{line-alone, line-of, rest-lies}
 use Rattle.sheet.proofs.line.read_line.Statement.{statement}
 use Rattle.sheet.proofs.line.read_line.Tie as tie
 
@@ -37,19 +37,14 @@ read-move-requires : tie.Need-read-move-requires
 unfolding part
 read-move-requires c κs =
     let p = c .before .before .before .before .before .before .before .before .before .before .before .before .before .pre in
-    let z = word-room _ _ _ (p .0 .0) (p .0 .1) _ (c .before .before .before .before .before .before .before .before .before .if1 .left)
-    (c .before .before .before .before .before .before .before .before .before .before .before .before .before .args .c .section)
-    (c .before .before .before .before .before .before .line-kind .ensures) (c .before .before .before .before .enum-told5 .given .1) in
-    let y = rest-lies _ _ _ (p .0 .0) (p .0 .1) _ (c .before .before .before .before .before .before .before .before .before .if1 .left) in
-    ((y .within, omega (arith, z, p .0 .2)), (p .1 .0, p .1 .1))
+    let z = rest-lies _ _ _ (p .0 .0) (p .0 .1) _ (c .before .before .before .before .before .before .before .before .before .if1 .left) .within in
+    ((z, omega (arith, z, p .0 .2)), (p .1 .0, p .1 .1))
 
 read-stop-requires : tie.Need-read-stop-requires
 unfolding part
 read-stop-requires c κs =
     let p = c .before .before .before .before .before .before .before .before .before .before .before .before .pre in
-    let z = word-room _ _ _ (p .0 .0) (p .0 .1) _ (c .before .before .before .before .before .before .before .before .if1 .left)
-    (c .before .before .before .before .before .before .before .before .before .before .before .before .args .c .section)
-    (c .before .before .before .before .before .line-kind .ensures) (c .before .before .before .enum-told6 .given .1) in
+    let z = rest-lies _ _ _ (p .0 .0) (p .0 .1) _ (c .before .before .before .before .before .before .before .before .if1 .left) .within in
     (omega (arith, z, p .0 .2), (p .1 .2, p .1 .3))
 
 returns-2 : tie.Need-returns-2

@@ -91,18 +91,12 @@ returns-5 c =
 
 slice-set-from-stops : tie.Need-slice-set-from-stops
 slice-set-from-stops c =
-    let k = parted-of _
-    (c .before .before .before .before .before .before .before .before .before .before .before .before .before .before .cut .given .1)
-    (c .before .before .before .before .before .before .before .before .before .before .before .before .before .before .before .before .cut-two .ensures) in
     let few = c .if2 .left in
     let p = c .before .before .before .before .before .before .before .before .before .before .before .before .before .before .before .before .before .before .before .pre in
     omega (arith, p .0, p .1 .0)
 
 slice-set-from-set : tie.Need-slice-set-from-set
 slice-set-from-set c =
-    let k = parted-of _
-    (c .before .before .before .before .before .before .before .before .before .before .before .before .before .before .before .cut .given .1)
-    (c .before .before .before .before .before .before .before .before .before .before .before .before .before .before .before .before .before .cut-two .ensures) in
     let few = c .before .if2 .left in
     let p = c .before .before .before .before .before .before .before .before .before .before .before .before .before .before .before .before .before .before .before .before .pre in
     omega (arith, p .0, p .1 .1)
