@@ -22,8 +22,8 @@ module _ {here guard : List ℕ} (made : List ℕ) (both : (p : ℕ) → p < 102
   move-must e w = (w, made-least e)
 
   module _ (missed : List ℕ) (without : (p : ℕ) → p < 1024 → has missed p ≡ has here p - has guard p) (n : Found) (k : Finds _≤_ (In missed) n) where
-    pub move-dead : m ≡ Nothing → ((p : ℕ) → InBoth here guard p → ⊥) × Finds _≤_ (InOnly here guard) n
-    move-dead e = (none-as (both-agree both) (found-none _≤_ (In made) l e), finds-as (only-agree without) _≤_ n k)
+    pub move-dead : {f : Found} → f ≡ n → m ≡ Nothing → ((p : ℕ) → InBoth here guard p → ⊥) × Finds _≤_ (InOnly here guard) f
+    move-dead d e = (none-as (both-agree both) (found-none _≤_ (In made) l e), rw d (finds-as (only-agree without) _≤_ n k))
 
     module _ {p plain : ℕ} (e : m ≡ At p) (w : plain ≡ 1 → ⊥) where
       pub move-false : n ≡ Nothing → MoveSets here guard plain (False p)
