@@ -37,18 +37,18 @@ module _ (s : List ℕ) (t : List (List ℕ)) where
   last x i = ap (λ (k : ℕ). cond (sameBytes (rowName s t i) x) (At k) (number (namesOf s t i) x)) (names-length i)
 
 module _ {s : List ℕ} {t : List (List ℕ)} {x : List ℕ} where
-  pub left-here : {n : ℕ} (i : ℕ) {y : List ℕ} {u : Bool} → Left s t x n i → 0 < i → y ≡ rowName s t (i - 1) → u ≡ sameBytes y x → u ≡ true → At (i - 1) ≡ number (namesOf s t n) x
-  left-here zero l m e h k = absurd (omega arith)
-  left-here (suc i) {y} {u} l m e h k =
+  pub left-here : {n : ℕ} (i : ℕ) {u : Bool} → Left s t x n i → 0 < i → u ≡ sameBytes (rowName s t (i - 1)) x → u ≡ true → At (i - 1) ≡ number (namesOf s t n) x
+  left-here zero l m h k = absurd (omega arith)
+  left-here (suc i) {u} l m h k =
       let z : suc i - 1 ≡ i = omega arith in
-      let f : sameBytes (rowName s t i) x ≡ true = rw (← (rw z at e), ← h) k in
+      let f : sameBytes (rowName s t i) x ≡ true = sym (rw z at h) ∙ k in
       rw z (sym (l .same ∙ last s t x i ∙ ap (λ (v : Bool). cond v (At i) (number (namesOf s t i) x)) f))
 
-  pub left-less : {n : ℕ} (i : ℕ) {y : List ℕ} {u : Bool} → Left s t x n i → 0 < i → y ≡ rowName s t (i - 1) → u ≡ sameBytes y x → u ≡ false → Left s t x n (i - 1)
-  left-less zero l m e h k = absurd (omega arith)
-  left-less (suc i) {y} {u} l m e h k =
+  pub left-less : {n : ℕ} (i : ℕ) {u : Bool} → Left s t x n i → 0 < i → u ≡ sameBytes (rowName s t (i - 1)) x → u ≡ false → Left s t x n (i - 1)
+  left-less zero l m h k = absurd (omega arith)
+  left-less (suc i) {u} l m h k =
       let z : suc i - 1 ≡ i = omega arith in
-      let f : sameBytes (rowName s t i) x ≡ false = rw (← (rw z at e), ← h) k in
+      let f : sameBytes (rowName s t i) x ≡ false = sym (rw z at h) ∙ k in
       let low = l .low in
       record {
         low = omega arith;

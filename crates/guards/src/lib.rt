@@ -5,7 +5,7 @@ ghost use mathlib.Core.Path.{_≡_};
 ghost use Prim.Native.Nat.{ℕ, _+_, _≤_, _<_, min};
 ghost use lib.ListN.{length, drop};
 ghost use mathlib.Core.List.{List};
-ghost use Rattle.fields.specs.Bytes.{part};
+ghost use Rattle.fields.specs.Bytes.{pieceOf, sameBytes};
 ghost use Rattle.guards.specs.Guard.{Guard, Operator, Parts, byteOf, Means, PartsMean};
 ghost use Rattle.guards.specs.Reading.{number, namesOf, parts, otherwise, opened, Inside, readGuard, readWhole, Reads, Follows};
 use products::Found;
@@ -52,11 +52,25 @@ pub fn find_name(text: &[u8], names: &[[usize; 2]; 10], count: usize, name: &[u8
         let row = names[i];
         let from = row[0];
         let upto = row[1];
-        if fields::same_bytes(fields::piece(text, from, upto), name) {
+        if stands_at(text, from, upto, name) {
             return Found::At(i);
         }
     }
     Found::Nothing
+}
+
+// Whether the bytes of `text` from place `from` up to place `upto` are those of `name`; where the text has
+// no such part they are none.
+fn stands_at(text: &[u8], from: usize, upto: usize, name: &[u8]) -> bool
+    ensures { λ r. ⌜ r ≡ sameBytes (pieceOf (now (text .entry)) from upto) (now (name .entry)) ⌝ }
+{
+    if upto < from {
+        return fields::same_bytes(&text[0..0], name);
+    }
+    if text.len() < upto {
+        return fields::same_bytes(&text[0..0], name);
+    }
+    fields::same_bytes(&text[from..upto], name)
 }
 
 fn refuse(number: u8, at: usize) -> GuardRead
