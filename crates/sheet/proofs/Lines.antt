@@ -191,7 +191,7 @@ module _ (l : List ℕ) (o : Bool) (h : IsOne l o) (n : ℕ) (st : State) {s : L
 
   module _ (e : not o ≡ false) (rd : GuardRead) (x : List ℕ) {nm : List (List ℕ)} {v : List ℕ} {m g t d : List (List ℕ)} {seen : List ℕ} {c : Progress}
       (so : Stands s (tables nm v m g t d) seen c st) (q : Reads l 0 rd x (readWhole (namesOf s nm (min (c .features) 10)) l)) where
-    pub valid-refused : {i p : ℕ} {r : LineRead} → rd ≡ guard.Refused i p → r ≡ Refused i n → Says s (tables nm v m g t d) seen r (validLine n st (asOne (fields l)))
+    pub valid-refused : {T : Tables} {i p : ℕ} {r : LineRead} → rd ≡ guard.Refused i p → r ≡ Refused i n → Says s T seen r (validLine n st (asOne (fields l)))
     unfolding validLine
     valid-refused a z = refuses z (ap (validLine n st) (is-one l o h e) ∙ guard-refused n (names (st .sheet .features)) l rd x (guard-stands l rd x so q) _ a)
 

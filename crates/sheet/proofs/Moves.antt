@@ -80,7 +80,7 @@ lies-part {s} {l} {at} b e h k m =
 module _ (n : ℕ) (st : State) (from : ℕ) (action : List ℕ) (place to : ℕ) (x : List ℕ) (rd : GuardRead) (gs : List ℕ)
     {s : List ℕ} {nm : List (List ℕ)} {v : List ℕ} {m g t d : List (List ℕ)} {seen : List ℕ} {c : Progress}
     (so : Stands s (tables nm v m g t d) seen c st) (q : Reads x 0 rd gs (readWhole (namesOf s nm (min (c .features) 10)) x)) where
-  pub move-refused : {i p : ℕ} {r : LineRead} → rd ≡ guard.Refused i p → r ≡ Refused i n → Says s (tables nm v m g t d) seen r (guardedMove n st from action place to x)
+  pub move-refused : {T : Tables} {i p : ℕ} {r : LineRead} → rd ≡ guard.Refused i p → r ≡ Refused i n → Says s T seen r (guardedMove n st from action place to x)
   unfolding guardedMove
   move-refused a z = refuses z (guard-refused n (names (st .sheet .features)) x rd gs (guard-stands x rd gs so q) _ a)
 
@@ -97,7 +97,7 @@ module _ (n : ℕ) (st : State) (from : ℕ) (action : List ℕ) (place to : ℕ
         let e : min (c .moves) (length m) ≡ c .moves = omega arith in
         has (st .sheet .moves) (rw e (so .filled .moves .rows)) (so .marked)
 
-    pub move-repeat : {r : LineRead} → y ≡ true → r ≡ Refused 9 n → Says s (tables nm v m g t d) seen′ r (guardedMove n st from action place to x)
+    pub move-repeat : {T : Tables} {r : LineRead} → y ≡ true → r ≡ Refused 9 n → Says s T seen′ r (guardedMove n st from action place to x)
     unfolding guardedMove after
     move-repeat e z =
         let w = guard-taken n (names (st .sheet .features)) x rd gs (guard-stands x rd gs so q) after a in

@@ -181,13 +181,10 @@ fn read_valid(
     if !cutting::is_one(rest) {
         return refuse(3, line);
     }
-    let g = guards::read_whole(text, names, c.features, rest);
-    let read = g.read;
+    let read = guards::read_whole(text, names, c.features, rest, valid);
     if let GuardRead::Refused { number, at: _ } = read {
         return refuse(number, line);
     }
-    let set = g.set;
-    *valid = set;
     LineRead::Kept(Progress {
         section: 2,
         valid: line,
@@ -291,7 +288,8 @@ fn read_triple(from: &[u8], action: &[u8], to: &[u8]) -> Triple
     }
 }
 
-// A move whose states and action are good: its guard, then whether it is a repeat, then its row.
+// A move whose states and action are good: its guard, laid straight into the next row of guards, then
+// whether it is a repeat, then its row.
 fn keep_move(
     text: &[u8],
     line: usize,
@@ -309,18 +307,15 @@ fn keep_move(
     requires { ⌜ (place + length (now action) ≤ length (now text)) × (c .moves < 256) × (c .moves < length (now moves)) × (c .moves < length (now «move_guards»)) ⌝ }
     ensures { λ r. ⌜ ((v : List ℕ) (t h : List (List ℕ)) (st : State) → Stands (now (text .entry)) (tables (now (names .entry)) v (now (moves .entry)) (now («move_guards» .entry)) t h) (now (seen .entry)) c st → Lies (now (text .entry)) (now (action .entry)) place → Says (now (text .entry)) (tables (now (names .entry)) v (now (moves .exit)) (now («move_guards» .exit)) t h) (now (seen .exit)) r (guardedMove line st from (now (action .entry)) place to (now (guard .entry)))) ⌝ }
 {
-    let g = guards::read_whole(text, names, c.features, guard);
-    let read = g.read;
+    let k = c.moves;
+    let read = guards::read_whole(text, names, c.features, guard, &mut move_guards[k]);
     if let GuardRead::Refused { number, at: _ } = read {
         return refuse(number, line);
     }
-    let k = c.moves;
     if is_repeat(text, moves, k, seen, from, action, to) {
         return refuse(9, line);
     }
     moves[k] = [line, from, place, place + action.len(), to, plain(guard)];
-    let set = g.set;
-    move_guards[k] = set;
     LineRead::Kept(Progress {
         section: 3,
         valid: c.valid,
@@ -353,8 +348,8 @@ fn read_stop(
     let Number::Of(state) = q else {
         return refuse(4, line);
     };
-    let g = guards::read_whole(text, names, c.features, &rest[b + 1..]);
-    let read = g.read;
+    let mut set = [0u64; 16];
+    let read = guards::read_whole(text, names, c.features, &rest[b + 1..], &mut set);
     if let GuardRead::Refused { number, at: _ } = read {
         return refuse(number, line);
     }
@@ -366,7 +361,6 @@ fn read_stop(
         return refuse(9, line);
     }
     stops[k] = [line, state];
-    let set = g.set;
     stop_guards[k] = set;
     let next = with_stop(c);
     LineRead::Kept(next)

@@ -54,11 +54,11 @@ returns-3 : tie.Need-returns-3
 unfolding part
 returns-3 c =
     λ v m g seen st so.
-    stop-refused _ _ st (c .before .before .before .before .before .before .before .before .before .before .before .before .cut .given .1)
-    (c .before .before .before .before .before .before .before .before .before .before .before .before .before .before .cut-two .ensures)
-    (c .before .before .before .before .before .before .before .q .given .1)
-    (c .before .before .before .before .before .before .before .before .before .read-state .ensures)
-    (c .before .before .before .before .read-whole .result .read) (c .before .before .before .before .read-whole .result .set) so
+    stop-refused _ _ st (c .before .before .before .before .before .before .before .before .before .before .before .before .before .cut .given .1)
+    (c .before .before .before .before .before .before .before .before .before .before .before .before .before .before .before .cut-two .ensures)
+    (c .before .before .before .before .before .before .before .before .q .given .1)
+    (c .before .before .before .before .before .before .before .before .before .before .read-state .ensures)
+    (c .before .before .before .before .read-whole .result) _ so
     (c .before .before .before .before .read-whole .ensures) (c .before .before .read .given .1) (c .refuse3 .ensures)
 
 returns-4 : tie.Need-returns-4
@@ -66,12 +66,11 @@ unfolding part
 returns-4 c =
     λ v m g seen st so.
     stop-repeat _ _ st
-    (c .before .before .before .before .before .before .before .before .before .before .before .before .before .before .cut .given .1)
-    (c .before .before .before .before .before .before .before .before .before .before .before .before .before .before .before .before .cut-two .ensures)
-    (c .before .before .before .before .before .before .before .before .before .q .given .1)
-    (c .before .before .before .before .before .before .before .before .before .before .before .read-state .ensures)
-    (c .before .before .before .before .before .before .read-whole .result .read)
-    (c .before .before .before .before .before .before .read-whole .result .set) so
+    (c .before .before .before .before .before .before .before .before .before .before .before .before .before .before .before .cut .given .1)
+    (c .before .before .before .before .before .before .before .before .before .before .before .before .before .before .before .before .before .cut-two .ensures)
+    (c .before .before .before .before .before .before .before .before .before .before .q .given .1)
+    (c .before .before .before .before .before .before .before .before .before .before .before .before .read-state .ensures)
+    (c .before .before .before .before .before .before .read-whole .result) _ so
     (c .before .before .before .before .before .before .read-whole .ensures) (c .before .before .before .before .enum-told3 .given .1)
     (c .before .before .has-stop .ensures) (c .before .if1 .taken) (c .refuse4 .ensures)
 
@@ -80,24 +79,23 @@ unfolding part
 returns-5 c =
     λ v m g seen st so.
     stop-never _ _ st
-    (c .before .before .before .before .before .before .before .before .before .before .before .before .before .before .before .cut .given .1)
-    (c .before .before .before .before .before .before .before .before .before .before .before .before .before .before .before .before .before .cut-two .ensures)
-    (c .before .before .before .before .before .before .before .before .before .before .q .given .1)
-    (c .before .before .before .before .before .before .before .before .before .before .before .before .read-state .ensures)
-    (c .before .before .before .before .before .before .before .read-whole .result .read)
-    (c .before .before .before .before .before .before .before .read-whole .result .set) so
+    (c .before .before .before .before .before .before .before .before .before .before .before .before .before .before .before .before .cut .given .1)
+    (c .before .before .before .before .before .before .before .before .before .before .before .before .before .before .before .before .before .before .cut-two .ensures)
+    (c .before .before .before .before .before .before .before .before .before .before .before .q .given .1)
+    (c .before .before .before .before .before .before .before .before .before .before .before .before .before .read-state .ensures)
+    (c .before .before .before .before .before .before .before .read-whole .result) _ so
     (c .before .before .before .before .before .before .before .read-whole .ensures) (c .before .before .before .before .before .enum-told3 .given .1)
     (c .before .before .before .has-stop .ensures) (c .before .before .if1 .left) (c .before .if2 .taken)
 
 slice-set-from-stops : tie.Need-slice-set-from-stops
 slice-set-from-stops c =
     let few = c .if2 .left in
-    let p = c .before .before .before .before .before .before .before .before .before .before .before .before .before .before .before .before .before .before .before .pre in
+    let p = c .before .before .before .before .before .before .before .before .before .before .before .before .before .before .before .before .before .before .before .before .pre in
     omega (arith, p .0, p .1 .0)
 
-slice-set-from-set : tie.Need-slice-set-from-set
-slice-set-from-set c =
-    let few = c .before .if2 .left in
+slice-set-from-stop-guards : tie.Need-slice-set-from-stop-guards
+slice-set-from-stop-guards c =
+    let few = c .if2 .left in
     let p = c .before .before .before .before .before .before .before .before .before .before .before .before .before .before .before .before .before .before .before .before .pre in
     omega (arith, p .0, p .1 .1)
 
@@ -110,11 +108,10 @@ returns-6 c =
     (c .before .before .before .before .before .before .before .before .before .before .before .before .before .before .before .before .before .before .cut-two .ensures)
     (c .before .before .before .before .before .before .before .before .before .before .before .q .given .1)
     (c .before .before .before .before .before .before .before .before .before .before .before .before .before .read-state .ensures)
-    (c .before .before .before .before .before .before .before .before .read-whole .result .read)
-    (c .before .before .before .before .before .before .before .before .read-whole .result .set) so
-    (c .before .before .before .before .before .before .before .before .read-whole .ensures)
-    (c .before .before .before .before .before .before .enum-told3 .given .1) (c .before .before .before .before .has-stop .ensures)
-    (c .before .before .before .if1 .left) (slice-set-from-stops (c .before .before)) (slice-set-from-set (c .before)) (c .with-stop .ensures)
+    (c .before .before .before .before .before .before .before .read-whole .result) _ so
+    (c .before .before .before .before .before .before .before .read-whole .ensures)
+    (c .before .before .before .before .before .enum-told3 .given .1) (c .before .before .before .has-stop .ensures)
+    (c .before .before .if1 .left) (slice-set-from-stops (c .before)) (slice-set-from-stop-guards (c .before)) (c .with-stop .ensures)
 
 pub read-stop-spec : {M : Type 1} → statement M
 read-stop-spec =
@@ -152,7 +149,7 @@ read-stop-spec =
     (λ c. search needs)
     slice-set-from-stops
     (λ c. search needs)
-    slice-set-from-set
+    slice-set-from-stop-guards
     (λ c κs. search needs)
     (λ c. search needs)
     (λ c. search needs)

@@ -10,17 +10,15 @@ returns c = λ m g t h seen st so. valid-wrong _ (c .before .before .is-one .res
 returns-2 : tie.Need-returns-2
 returns-2 c =
     λ m g t h seen st so.
-    valid-refused _ (c .before .before .before .before .before .before .is-one .result)
-    (c .before .before .before .before .before .before .is-one .ensures) _ st (c .before .before .before .before .before .if1 .left)
-    (c .before .before .before .before .read-whole .result .read) (c .before .before .before .before .read-whole .result .set) so
-    (c .before .before .before .before .read-whole .ensures) (c .before .before .read .given .1) (c .refuse2 .ensures)
+    valid-refused _ (c .before .before .before .before .before .before .before .is-one .result) (c .before .before .before .before .before .before .before .is-one .ensures) _ st
+    (c .before .before .before .before .before .before .if1 .left) (c .before .before .before .before .read-whole .result) _ so (c .before .before .before .before .read-whole .ensures)
+    (c .before .before .read .given .1) (c .refuse2 .ensures)
 
 returns-3 : tie.Need-returns-3
 returns-3 c =
     λ m g t h seen st so.
     valid-kept _ (c .before .before .before .before .before .is-one .result) (c .before .before .before .before .before .is-one .ensures) _ st
-    (c .before .before .before .before .if1 .left) (c .before .before .before .read-whole .result .read)
-    (c .before .before .before .read-whole .result .set) so (c .before .before .before .read-whole .ensures) (c .before .enum-told .given .1)
+    (c .before .before .before .before .if1 .left) (c .before .before .read-whole .result) _ so (c .before .before .read-whole .ensures) (c .enum-told .given .1)
 
 pub read-valid-spec : {M : Type 1} → statement M
 read-valid-spec =
