@@ -1,46 +1,58 @@
 -- The search for the smallest product: what is known of the places that it passed, how that grows by a bit or by a word, and what it says
 -- where the search ends. Assumes nothing.
-use mathlib.Core.Path.{_≡_, _∙_}
+use mathlib.Core.Path.{_≡_, sym, _∙_}
 use mathlib.Core.List.{List}
 use Prim.Native.Nat.{ℕ, zero, suc, _+_, _*_, _<_, _≤_}
 use native.Mathlib.Omega.{arith}
 use native.Mathlib.Numerals.{add-one}
 use borrow.Author.Count.{below-more}
 use lib.ListN.{getD}
-use Rattle.products.specs.Sets.{bit, has, In, Least}
+use Rattle.products.specs.declared.Found.{Found}
+use Rattle.products.specs.declared.Found.the-variants.{At, Nothing}
+use Rattle.products.specs.Sets.{bit, has, In, Picked, InBoth, Least, Finds}
 use Rattle.products.proofs.Bits.{zero-bit}
 use Rattle.products.proofs.Laws.{has-at}
 
--- s has no product before bit b of word w
-pub record Passed (s : List ℕ) (w b : ℕ) : Type 0 where
-  pub none : (q : ℕ) → q < w * 64 + b → has s q ≡ 0
+-- no product before bit k of word w is picked
+pub record Passed (y : ℕ) (a b : List ℕ) (w k : ℕ) : Type 0 where
+  pub none : (q : ℕ) → q < w * 64 + k → Picked y a b q → ⊥
 
-module _ {s : List ℕ} {w b : ℕ} (h : Passed s w b) where
-  -- a bit that is not 1
-  pub passed-bit : b < 64 → (bit (getD s w 0) b ≡ 1 → ⊥) → Passed s w (b + 1)
-  passed-bit lt ne =
-      record { none = λ q lq. below-more (λ q. has s q ≡ 0) (w * 64 + b) (h .none) (omega (arith, has-at s w b lt)) q (omega arith) }
-
+module _ {y : ℕ} {a b : List ℕ} {w : ℕ} where
   -- all bits of a word
-  pub passed-bits : 64 ≤ b → Passed s (w + 1) 0
-  passed-bits le = record { none = λ q lq. h .none q (omega arith) }
+  pub passed-bits : {k : ℕ} → Passed y a b w k → 64 ≤ k → Passed y a b (w + 1) 0
+  passed-bits h le = record { none = λ q lq. h .none q (omega arith) }
 
-  -- a bit that is 1 is the smallest product
-  pub least-at : w < 16 → b < 64 → bit (getD s w 0) b ≡ 1 → Least _≤_ (In s) (w * 64 + b)
-  least-at lw lb e =
-      record {
-        is = record { small = omega arith; is = has-at s w b lb ∙ e };
-        first = λ q i. let past : q < w * 64 + b → ⊥ = λ lt. omega (arith, h .none q lt, i .is) in omega arith;
-      }
+  -- all words
+  pub least-none : Passed y a b w 0 → w ≡ 16 → (q : ℕ) → Picked y a b q → ⊥
+  least-none h e q i = h .none q (omega (arith, i .first .small)) i
 
--- a word that is 0
-pub passed-word : {s : List ℕ} {w : ℕ} → Passed s w 0 → getD s w 0 ≡ 0 → Passed s (w + 1) 0
-passed-word {s} {w} h e = passed-bits (upto 64 (omega arith)) (omega arith)
-  where
-    upto : (b : ℕ) → b ≤ 64 → Passed s w b
-    upto zero le = h
-    upto (suc b) le = rw (← add-one b) (passed-bit (upto b (omega arith)) le (rw e (λ o. omega (arith, zero-bit b))))
+  -- x is what word w of a and b picks
+  module _ (x : ℕ) (on : (k : ℕ) → (bit x k ≡ 1 → (bit (getD a w 0) k ≡ 1) × (bit (getD b w 0) k ≡ y)) × (bit (getD a w 0) k ≡ 1 → bit (getD b w 0) k ≡ y → bit x k ≡ 1)) where
+    -- a bit that is not 1
+    pub passed-bit : {k : ℕ} → Passed y a b w k → k < 64 → (bit x k ≡ 1 → ⊥) → Passed y a b w (k + 1)
+    passed-bit {k} h lt ne =
+        record {
+          none = λ q lq. below-more (λ q. Picked y a b q → ⊥) (w * 64 + k) (h .none)
+              (λ i. ne (on k .1 (sym (has-at a w k lt) ∙ i .first .is) (sym (has-at b w k lt) ∙ i .second))) q (omega arith);
+        }
 
--- all words
-pub least-none : {s : List ℕ} {w : ℕ} → Passed s w 0 → w ≡ 16 → (q : ℕ) → In s q → ⊥
-least-none h e q i = omega (arith, h .none q (omega (arith, i .small)), i .is)
+    -- a bit that is 1 is the smallest product
+    pub least-at : {k : ℕ} → Passed y a b w k → w < 16 → k < 64 → bit x k ≡ 1 → Least _≤_ (Picked y a b) (w * 64 + k)
+    least-at {k} h lw lk e =
+        record {
+          is = record { first = record { small = omega arith; is = has-at a w k lk ∙ on k .0 e .0 }; second = has-at b w k lk ∙ on k .0 e .1 };
+          first = λ q i. let past : q < w * 64 + k → ⊥ = λ lt. h .none q lt i in omega arith;
+        }
+
+    -- a word that is 0
+    pub passed-word : Passed y a b w 0 → x ≡ 0 → Passed y a b (w + 1) 0
+    passed-word h e = passed-bits (upto 64 (omega arith)) (omega arith)
+      where
+        upto : (k : ℕ) → k ≤ 64 → Passed y a b w k
+        upto zero le = h
+        upto (suc k) le = rw (← add-one k) (passed-bit (upto k (omega arith)) le (rw e (λ o. omega (arith, zero-bit k))))
+
+-- what s and s both have is what s has
+pub least-same : (s : List ℕ) (f : Found) → Finds _≤_ (InBoth s s) f → Finds _≤_ (In s) f
+least-same s (At p) l = record { is = l .is .first; first = λ q i. l .first q (record { first = i; second = i .is }) }
+least-same s Nothing none = λ q i. none q (record { first = i; second = i .is })

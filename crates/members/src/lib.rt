@@ -1,9 +1,9 @@
 // What a set of products has: whether it has one, how many, which is the least, and whether two sets are the same.
 ghost use mathlib.Core.Path.{_≡_};
-ghost use mathlib.Core.Bool.{true, false};
+ghost use mathlib.Core.Bool.{true, false, not};
 ghost use Prim.Native.Nat.{ℕ, _+_, _*_, _<_, _≤_};
 ghost use lib.Dec.{eqb};
-ghost use Rattle.products.specs.Sets.{has, In, Finds, countTo};
+ghost use Rattle.products.specs.Sets.{bit, has, oneIf, In, Picked, InBoth, InOnly, Finds, countTo};
 use products::Found;
 
 // Whether s has product p. No set has a product from 1,024 on.
@@ -43,29 +43,61 @@ pub fn count(s: [u64; 16]) -> usize
     n
 }
 
-// The smallest product that s has. Words that hold none are passed over whole.
+// The smallest product that s has.
 pub fn least(s: [u64; 16]) -> Found
     ensures { λ r. ⌜ Finds _≤_ (In s) r ⌝ }
 {
     if is_empty(s) {
         return Found::Nothing;
     }
+    search(&s, &s, false)
+}
+
+// The smallest product that a and b both have.
+pub fn least_both(a: &[u64; 16], b: &[u64; 16]) -> Found
+    ensures { λ r. ⌜ Finds _≤_ (InBoth (now (a .entry)) (now (b .entry))) r ⌝ }
+{
+    search(a, b, false)
+}
+
+// The smallest product that a has and b has not.
+pub fn least_without(a: &[u64; 16], b: &[u64; 16]) -> Found
+    ensures { λ r. ⌜ Finds _≤_ (InOnly (now (a .entry)) (now (b .entry))) r ⌝ }
+{
+    search(a, b, true)
+}
+
+// The smallest product that a has and b has, or has not if `out`. Words that hold none are passed over whole.
+fn search(a: &[u64; 16], b: &[u64; 16], out: bool) -> Found
+    ensures { λ r. ⌜ Finds _≤_ (Picked (oneIf (not out)) (now (a .entry)) (now (b .entry))) r ⌝ }
+{
     let mut w = 0;
     'search: loop {
         if w == 16 {
             break 'search Found::Nothing;
         }
-        if s[w] != 0 {
-            let mut b = 0;
-            while b < 64 {
-                if (s[w] >> b) % 2 == 1 {
-                    break 'search Found::At(w * 64 + b);
+        let x = picked(a[w], b[w], out);
+        if x != 0 {
+            let mut k = 0;
+            while k < 64 {
+                if (x >> k) % 2 == 1 {
+                    break 'search Found::At(w * 64 + k);
                 }
-                b += 1;
+                k += 1;
             }
         }
         w += 1;
     }
+}
+
+// The bits of a that b has, or has not if `out`.
+fn picked(a: u64, b: u64, out: bool) -> u64
+    ensures { λ r. ⌜ ((k : ℕ) → (bit r k ≡ 1 → (bit a k ≡ 1) × (bit b k ≡ oneIf (not out))) × (bit a k ≡ 1 → bit b k ≡ oneIf (not out) → bit r k ≡ 1)) ⌝ }
+{
+    if out {
+        return a ^ (a & b);
+    }
+    a & b
 }
 
 // Whether s has no product: all words at once, without a branch for each.

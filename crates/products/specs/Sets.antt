@@ -26,6 +26,18 @@ pub record In (s : List ℕ) (p : ℕ) : Type 0 where
   pub small : p < 1024
   pub is : has s p ≡ 1
 
+-- a has p, and of b it is said by y: 1 if b has p, 0 if not
+pub record Picked (y : ℕ) (a b : List ℕ) (p : ℕ) : Type 0 where
+  pub first : In a p
+  pub second : has b p ≡ y
+
+-- a and b have p; a has p and b has not
+abbrev pub InBoth : List ℕ → List ℕ → ℕ → Type 0
+InBoth = Picked 1
+
+abbrev pub InOnly : List ℕ → List ℕ → ℕ → Type 0
+InOnly = Picked 0
+
 -- p has the property P, and stands in the order R before every product that has it
 pub record Least (R : ℕ → ℕ → Type 0) (P : ℕ → Type 0) (p : ℕ) : Type 0 where
   pub is : P p
