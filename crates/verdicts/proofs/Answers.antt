@@ -1,4 +1,4 @@
--- The judges' answers, a law for each return: what `products::least` found in the sets, said of the sets that were judged. Assumes nothing.
+-- The judges' answers, a law for each return: what a search found, said of the sets that were judged. Assumes nothing.
 use mathlib.Core.Path.{_≡_}
 use mathlib.Core.Bool.{Bool, true, false}
 use mathlib.Core.List.{List}
@@ -10,27 +10,27 @@ use Rattle.verdicts.specs.declared.Verdict.the-variants.{False, Must, Ma
 use Rattle.verdicts.specs.declared.StateVerdict.the-variants.{Hidden, Live}
 use Rattle.verdicts.specs.declared.StopVerdict.the-variants.{Untrue, True}
 use Rattle.verdicts.specs.Judging.{InBoth, InOnly, MoveSets, StateSets, StopSets}
-use Rattle.verdicts.proofs.Agreeing.{least-as, none-as, some-as, finds-as, found-at, found-none, both-agree, only-agree, left-agree, all-agree}
+use Rattle.verdicts.proofs.Agreeing.{least-as, none-as, some-as, found-at, found-none, both-agree, left-agree, all-agree}
 
 -- ---- moves
 
-module _ {here guard : List ℕ} (made : List ℕ) (both : (p : ℕ) → p < 1024 → has made p ≡ min (has here p) (has guard p)) {m : Found} (l : Finds _≤_ (In made) m) where
+module _ {here guard : List ℕ} {m : Found} (l : Finds _≤_ (InBoth here guard) m) where
   made-least : {p : ℕ} → m ≡ At p → Least _≤_ (InBoth here guard) p
-  made-least e = least-as (both-agree both) (found-at _≤_ (In made) l e)
+  made-least e = found-at _≤_ (InBoth here guard) l e
 
   pub move-must : {p plain : ℕ} → m ≡ At p → plain ≡ 1 → MoveSets here guard plain (Must p)
   move-must e w = (w, made-least e)
 
-  module _ (missed : List ℕ) (without : (p : ℕ) → p < 1024 → has missed p ≡ has here p - has guard p) (n : Found) (k : Finds _≤_ (In missed) n) where
+  module _ {n : Found} (k : Finds _≤_ (InOnly here guard) n) where
     pub move-dead : {f : Found} → f ≡ n → m ≡ Nothing → ((p : ℕ) → InBoth here guard p → ⊥) × Finds _≤_ (InOnly here guard) f
-    move-dead d e = (none-as (both-agree both) (found-none _≤_ (In made) l e), rw d (finds-as (only-agree without) _≤_ n k))
+    move-dead d e = (found-none _≤_ (InBoth here guard) l e, rw d k)
 
     module _ {p plain : ℕ} (e : m ≡ At p) (w : plain ≡ 1 → ⊥) where
       pub move-false : n ≡ Nothing → MoveSets here guard plain (False p)
-      move-false f = (w, made-least e, none-as (only-agree without) (found-none _≤_ (In missed) k f))
+      move-false f = (w, made-least e, found-none _≤_ (InOnly here guard) k f)
 
       pub move-may : {q : ℕ} → n ≡ At q → MoveSets here guard plain (May p q)
-      move-may f = (w, made-least e, least-as (only-agree without) (found-at _≤_ (In missed) k f))
+      move-may f = (w, made-least e, found-at _≤_ (InOnly here guard) k f)
 
 -- ---- states
 
