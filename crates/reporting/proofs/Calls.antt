@@ -65,14 +65,17 @@ lent-blank k d = (rows-blank k 6, rows-blank k 16, rows-blank d 2, rows-blank d 
 -- they are enough for the text s
 abbrev Enough : List ℕ → ℕ → ℕ → Type 0
 Enough s k d =
-    (min (length s) 2048 ≤ 8 * length (blankRows k 6)) × (min (length s) 2048 ≤ 8 * length (blankRows k 16))
-    × (min (length s) 384 ≤ 6 * length (blankRows d 2)) × (min (length s) 384 ≤ 6 * length (blankRows d 16))
+    (min (length s) 3328 ≤ 13 * length (blankRows k 6)) × (min (length s) 3328 ≤ 13 * length (blankRows k 16))
+    × (min (length s) 576 ≤ 9 * length (blankRows d 2)) × (min (length s) 576 ≤ 9 * length (blankRows d 16))
 
-enough : (s : List ℕ) (k d : ℕ) → min (length s) 2048 ≤ 8 * k → min (length s) 384 ≤ 6 * d → Enough s k d
+enough : (s : List ℕ) (k d : ℕ) → min (length s) 3328 ≤ 13 * k → min (length s) 576 ≤ 9 * d → Enough s k d
 enough s k d a b = rw (rows-long k 6, rows-long k 16, rows-long d 2, rows-long d 16) (a, a, b, b)
 
-pub enough-short : (s : List ℕ) → length s ≤ 256 → Enough s 32 44
-enough-short s l = enough s 32 44 (omega arith) (omega arith)
+pub enough-small : (s : List ℕ) → length s ≤ 208 → Enough s 16 24
+enough-small s l = enough s 16 24 (omega arith) (omega arith)
+
+pub enough-middle : (s : List ℕ) → length s ≤ 1872 → Enough s 144 64
+enough-middle s l = enough s 144 64 (omega arith) (omega arith)
 
 pub enough-any : (s : List ℕ) → Enough s 256 64
 enough-any s = enough s 256 64 (omega arith) (omega arith)

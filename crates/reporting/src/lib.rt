@@ -31,12 +31,15 @@ pub enum Answer {
     Refused { number: u8, line: usize },
 }
 
-// A text that is not longer has at most 32 move lines and 44 stop lines; for it `report` has small tables.
-const SHORT_TEXT: usize = 256;
+// A text of at most SMALL_TEXT bytes has at most 16 move lines and 24 stop lines, one of at most MIDDLE_TEXT
+// bytes at most 144 move lines. Nothing hangs on these sizes but speed.
+const SMALL_TEXT: usize = 208;
+
+const MIDDLE_TEXT: usize = 1872;
 
 // The buffers, by the number of moves; nothing hangs on these but speed. A report of an accepted sheet is
 // never as long as OWN, and one of fewer moves than FEW seldom as long as SHORT.
-const FEW: usize = 32;
+const FEW: usize = 64;
 
 const SHORT: usize = 2048;
 
@@ -46,20 +49,57 @@ const OWN: usize = 12288;
 pub fn report(text: &[u8], room: &mut [u8]) -> Answer
     ensures { λ r. ⌜ ReportPromise (now (text .entry)) (now (room .entry)) (now (room .exit)) r ⌝ }
 {
-    if text.len() <= SHORT_TEXT {
-        let mut moves = [[0usize; 6]; 32];
-        let mut move_guards = [[0u64; 16]; 32];
-        let mut stops = [[0usize; 2]; 44];
-        let mut stop_guards = [[0u64; 16]; 44];
-        return report_by(
-            text,
-            room,
-            &mut moves,
-            &mut move_guards,
-            &mut stops,
-            &mut stop_guards,
-        );
+    if text.len() <= SMALL_TEXT {
+        return report_small(text, room);
     }
+    if text.len() <= MIDDLE_TEXT {
+        return report_middle(text, room);
+    }
+    report_large(text, room)
+}
+
+// The same for a small text.
+fn report_small(text: &[u8], room: &mut [u8]) -> Answer
+    requires { ⌜ length (now text) ≤ 208 ⌝ }
+    ensures { λ r. ⌜ ReportPromise (now (text .entry)) (now (room .entry)) (now (room .exit)) r ⌝ }
+{
+    let mut moves = [[0usize; 6]; 16];
+    let mut move_guards = [[0u64; 16]; 16];
+    let mut stops = [[0usize; 2]; 24];
+    let mut stop_guards = [[0u64; 16]; 24];
+    report_by(
+        text,
+        room,
+        &mut moves,
+        &mut move_guards,
+        &mut stops,
+        &mut stop_guards,
+    )
+}
+
+// The same for a text of middle length.
+fn report_middle(text: &[u8], room: &mut [u8]) -> Answer
+    requires { ⌜ length (now text) ≤ 1872 ⌝ }
+    ensures { λ r. ⌜ ReportPromise (now (text .entry)) (now (room .entry)) (now (room .exit)) r ⌝ }
+{
+    let mut moves = [[0usize; 6]; 144];
+    let mut move_guards = [[0u64; 16]; 144];
+    let mut stops = [[0usize; 2]; 64];
+    let mut stop_guards = [[0u64; 16]; 64];
+    report_by(
+        text,
+        room,
+        &mut moves,
+        &mut move_guards,
+        &mut stops,
+        &mut stop_guards,
+    )
+}
+
+// The same for every text.
+fn report_large(text: &[u8], room: &mut [u8]) -> Answer
+    ensures { λ r. ⌜ ReportPromise (now (text .entry)) (now (room .entry)) (now (room .exit)) r ⌝ }
+{
     let mut moves = [[0usize; 6]; 256];
     let mut move_guards = [[0u64; 16]; 256];
     let mut stops = [[0usize; 2]; 64];
@@ -84,7 +124,7 @@ fn report_by(
     stop_guards: &mut [[u64; 16]],
 ) -> Answer
     requires { ⌜ (now moves ≡ replicate (length (now moves)) (replicate 6 0)) × (now «move_guards» ≡ replicate (length (now «move_guards»)) (replicate 16 0)) × (now stops ≡ replicate (length (now stops)) (replicate 2 0)) × (now «stop_guards» ≡ replicate (length (now «stop_guards»)) (replicate 16 0)) ⌝ }
-    requires { ⌜ (min (length (now text)) 2048 ≤ 8 * length (now moves)) × (min (length (now text)) 2048 ≤ 8 * length (now «move_guards»)) × (min (length (now text)) 384 ≤ 6 * length (now stops)) × (min (length (now text)) 384 ≤ 6 * length (now «stop_guards»)) ⌝ }
+    requires { ⌜ (min (length (now text)) 3328 ≤ 13 * length (now moves)) × (min (length (now text)) 3328 ≤ 13 * length (now «move_guards»)) × (min (length (now text)) 576 ≤ 9 * length (now stops)) × (min (length (now text)) 576 ≤ 9 * length (now «stop_guards»)) ⌝ }
     ensures { λ r. ⌜ ReportPromise (now (text .entry)) (now (room .entry)) (now (room .exit)) r ⌝ }
 {
     let mut names = [[0usize; 2]; 10];
