@@ -9,7 +9,7 @@ ghost use lib.ListN.{length, getD, replicate};
 ghost use Rattle.text.specs.Text.{Wrote};
 ghost use Rattle.guards.specs.Reading.{namesOf};
 ghost use Rattle.sheet.specs.Sheet.{Move, Stop, Sheet};
-ghost use Rattle.sheet.specs.Tables.{Rows, tables, blankTables};
+ghost use Rattle.sheet.specs.Tables.{Rows, tables, blankTables, ReadsSheet};
 ghost use Rattle.sheet.specs.Spelling.{featureFields, moveRow, stopRow, textOf};
 ghost use Rattle.cleaning.specs.Forms.{linesOf, RowMove, RowsWithin, StopsBelow, FormOf, Prepared};
 ghost use Rattle.cleaning.specs.Promise.{CleanPromise};
@@ -37,28 +37,68 @@ const FEW: usize = 32;
 
 const SHORT: usize = 2048;
 
-// A text of at most so many bytes has at most 32 moves and 44 stops.
-const SHORT_TEXT: usize = 256;
+// A text of at most SMALL_TEXT bytes has at most 16 move lines and 24 stop lines, one of at most
+// MIDDLE_TEXT bytes at most 144 move lines. Nothing hangs on these sizes but speed.
+const SMALL_TEXT: usize = 208;
 
-// Lays the clean form of the sheet `text` into `room`, by way of tables that are small where the text is
-// short.
+const MIDDLE_TEXT: usize = 1872;
+
+// Lays the clean form of the sheet `text` into `room`, by way of tables whose size goes by the text's
+// length.
 pub fn clean(text: &[u8], room: &mut [u8]) -> Answer
     ensures { λ r. ⌜ CleanPromise (now (text .entry)) (now (room .entry)) (now (room .exit)) r ⌝ }
 {
-    if text.len() <= SHORT_TEXT {
-        let mut moves = [[0usize; 6]; 32];
-        let mut move_guards = [[0u64; 16]; 32];
-        let mut stops = [[0usize; 2]; 44];
-        let mut stop_guards = [[0u64; 16]; 44];
-        return clean_by(
-            text,
-            room,
-            &mut moves,
-            &mut move_guards,
-            &mut stops,
-            &mut stop_guards,
-        );
+    if text.len() <= SMALL_TEXT {
+        return clean_small(text, room);
     }
+    if text.len() <= MIDDLE_TEXT {
+        return clean_middle(text, room);
+    }
+    clean_large(text, room)
+}
+
+// The same for a small text.
+fn clean_small(text: &[u8], room: &mut [u8]) -> Answer
+    requires { ⌜ length (now text) ≤ 208 ⌝ }
+    ensures { λ r. ⌜ CleanPromise (now (text .entry)) (now (room .entry)) (now (room .exit)) r ⌝ }
+{
+    let mut moves = [[0usize; 6]; 16];
+    let mut move_guards = [[0u64; 16]; 16];
+    let mut stops = [[0usize; 2]; 24];
+    let mut stop_guards = [[0u64; 16]; 24];
+    clean_by(
+        text,
+        room,
+        &mut moves,
+        &mut move_guards,
+        &mut stops,
+        &mut stop_guards,
+    )
+}
+
+// The same for a middling text.
+fn clean_middle(text: &[u8], room: &mut [u8]) -> Answer
+    requires { ⌜ length (now text) ≤ 1872 ⌝ }
+    ensures { λ r. ⌜ CleanPromise (now (text .entry)) (now (room .entry)) (now (room .exit)) r ⌝ }
+{
+    let mut moves = [[0usize; 6]; 144];
+    let mut move_guards = [[0u64; 16]; 144];
+    let mut stops = [[0usize; 2]; 64];
+    let mut stop_guards = [[0u64; 16]; 64];
+    clean_by(
+        text,
+        room,
+        &mut moves,
+        &mut move_guards,
+        &mut stops,
+        &mut stop_guards,
+    )
+}
+
+// The same for every text.
+fn clean_large(text: &[u8], room: &mut [u8]) -> Answer
+    ensures { λ r. ⌜ CleanPromise (now (text .entry)) (now (room .entry)) (now (room .exit)) r ⌝ }
+{
     let mut moves = [[0usize; 6]; 256];
     let mut move_guards = [[0u64; 16]; 256];
     let mut stops = [[0usize; 2]; 64];
@@ -83,7 +123,7 @@ fn clean_by(
     stop_guards: &mut [[u64; 16]],
 ) -> Answer
     requires { ⌜ tables (replicate 10 (replicate 2 0)) (replicate 16 0) (now moves) (now «move_guards») (now stops) (now «stop_guards») ≡ blankTables (length (now moves)) (length (now «move_guards»)) (length (now stops)) (length (now «stop_guards»)) ⌝ }
-    requires { ⌜ (min (length (now text)) 2048 ≤ 8 * length (now moves)) × (min (length (now text)) 2048 ≤ 8 * length (now «move_guards»)) × (min (length (now text)) 384 ≤ 6 * length (now stops)) × (min (length (now text)) 384 ≤ 6 * length (now «stop_guards»)) ⌝ }
+    requires { ⌜ (min (length (now text)) 3328 ≤ 13 * length (now moves)) × (min (length (now text)) 3328 ≤ 13 * length (now «move_guards»)) × (min (length (now text)) 576 ≤ 9 * length (now stops)) × (min (length (now text)) 576 ≤ 9 * length (now «stop_guards»)) ⌝ }
     ensures { λ r. ⌜ CleanPromise (now (text .entry)) (now (room .entry)) (now (room .exit)) r ⌝ }
 {
     let mut names = [[0usize; 2]; 10];
@@ -100,18 +140,33 @@ fn clean_by(
     let SheetRead::Kept(c) = r else {
         return pass_up(r);
     };
+    clean_read(text, room, c, &names, valid, moves, move_guards)
+}
+
+// The clean sheet of the sheet that was read into the tables.
+fn clean_read(
+    text: &[u8],
+    room: &mut [u8],
+    c: Counts,
+    names: &[[usize; 2]; 10],
+    valid: [u64; 16],
+    moves: &[[usize; 6]],
+    guards: &[[u64; 16]],
+) -> Answer
+    ensures { λ r. ⌜ ((t h : List (List ℕ)) → ReadsSheet (now (text .entry)) (tables (now (names .entry)) valid (now (moves .entry)) (now (guards .entry)) t h) (SheetRead.Kept c) → CleanPromise (now (text .entry)) (now (room .entry)) (now (room .exit)) r) ⌝ }
+{
     let mut sets = [[0u64; 16]; 64];
-    family::spread(c.start, valid, c.moves, moves, move_guards, &mut sets);
+    family::spread(c.start, valid, c.moves, moves, guards, &mut sets);
     let mut order = [0usize; 256];
-    let kept = ordering::order_moves(text, c.moves, moves, move_guards, &sets, &mut order);
+    let kept = ordering::order_moves(text, c.moves, moves, guards, &sets, &mut order);
     lay(
         room,
         text,
         c,
-        &names,
+        names,
         valid,
         moves,
-        move_guards,
+        guards,
         &sets,
         &order,
         kept,
@@ -136,21 +191,59 @@ fn lay(
     ensures { λ r. ⌜ ((t h : List (List ℕ)) → Prepared (now (text .entry)) c (tables (now (names .entry)) valid (now (moves .entry)) (now (guards .entry)) t h) (now (sets .entry)) (now (rows .entry)) kept → CleanPromise (now (text .entry)) (now (room .entry)) (now (room .exit)) r) ⌝ }
 {
     if c.moves < FEW {
-        let mut own = [0u8; SHORT];
-        return lay_by(
-            &mut own,
-            room,
-            text,
-            c,
-            names,
-            valid,
-            moves,
-            guards,
-            sets,
-            rows,
-            kept,
-        );
+        return lay_few(room, text, c, names, valid, moves, guards, sets, rows, kept);
     }
+    lay_many(room, text, c, names, valid, moves, guards, sets, rows, kept)
+}
+
+// The same for few move lines.
+fn lay_few(
+    room: &mut [u8],
+    text: &[u8],
+    c: Counts,
+    names: &[[usize; 2]; 10],
+    valid: [u64; 16],
+    moves: &[[usize; 6]],
+    guards: &[[u64; 16]],
+    sets: &[[u64; 16]; 64],
+    rows: &[usize; 256],
+    kept: usize,
+) -> Answer
+    requires { ⌜ RowsWithin (now rows) kept (now moves) (now guards) ⌝ }
+    ensures { λ r. ⌜ ((t h : List (List ℕ)) → Prepared (now (text .entry)) c (tables (now (names .entry)) valid (now (moves .entry)) (now (guards .entry)) t h) (now (sets .entry)) (now (rows .entry)) kept → CleanPromise (now (text .entry)) (now (room .entry)) (now (room .exit)) r) ⌝ }
+{
+    let mut own = [0u8; SHORT];
+    lay_by(
+        &mut own,
+        room,
+        text,
+        c,
+        names,
+        valid,
+        moves,
+        guards,
+        sets,
+        rows,
+        kept,
+    )
+}
+
+// The same for many.
+fn lay_many(
+    room: &mut [u8],
+    text: &[u8],
+    c: Counts,
+    names: &[[usize; 2]; 10],
+    valid: [u64; 16],
+    moves: &[[usize; 6]],
+    guards: &[[u64; 16]],
+    sets: &[[u64; 16]; 64],
+    rows: &[usize; 256],
+    kept: usize,
+) -> Answer
+    requires { ⌜ RowsWithin (now rows) kept (now moves) (now guards) ⌝ }
+    ensures { λ r. ⌜ ((t h : List (List ℕ)) → Prepared (now (text .entry)) c (tables (now (names .entry)) valid (now (moves .entry)) (now (guards .entry)) t h) (now (sets .entry)) (now (rows .entry)) kept → CleanPromise (now (text .entry)) (now (room .entry)) (now (room .exit)) r) ⌝ }
+{
     let mut own = [0u8; OWN_BYTES];
     lay_by(
         &mut own,

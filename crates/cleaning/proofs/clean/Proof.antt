@@ -1,31 +1,25 @@
--- `clean`: what `clean_by` leaves with either tables; 32 and 44 rows are enough for 256 bytes, 256 and 64 for every text. Assumes nothing.
-use mathlib.Core.Path.{refl}
+-- `clean`: what the call for the text's size leaves; each test gives what that call asks for. Assumes nothing.
 use native.Mathlib.Omega.{arith}
 use borrow.Author.Needs.{needs}
 use Rattle.cleaning.proofs.clean.Statement.{statement}
 use Rattle.cleaning.proofs.clean.Tie as tie
 
-clean-by-requires : tie.Need-clean-by-requires
-clean-by-requires c κs = let short = c .before .before .before .before .before .if1 .taken in (refl, (omega arith, omega arith, omega arith, omega arith))
+clean-small-requires : tie.Need-clean-small-requires
+clean-small-requires c κs = omega arith
 
-clean-by-requires-2 : tie.Need-clean-by-requires-2
-clean-by-requires-2 c κs = (refl, (omega arith, omega arith, omega arith, omega arith))
+clean-middle-requires : tie.Need-clean-middle-requires
+clean-middle-requires c κs = omega arith
 
 pub clean-spec : {M : Type 1} → statement M
 clean-spec =
     tie.close
     (tie.spec
+    clean-small-requires
     (λ c. search needs)
     (λ c. search needs)
+    clean-middle-requires
     (λ c. search needs)
     (λ c. search needs)
-    clean-by-requires
-    (λ c. search needs)
-    (λ c. search needs)
-    (λ c. search needs)
-    (λ c. search needs)
-    (λ c. search needs)
-    (λ c. search needs)
-    clean-by-requires-2
+    (λ c κs. search needs)
     (λ c. search needs)
     (λ c. search needs))
