@@ -76,7 +76,7 @@ fn clean_small(text: &[u8], room: &mut [u8]) -> Answer
     )
 }
 
-// The same for a middling text.
+// The same for a text of middle length.
 fn clean_middle(text: &[u8], room: &mut [u8]) -> Answer
     requires { ⌜ length (now text) ≤ 1872 ⌝ }
     ensures { λ r. ⌜ CleanPromise (now (text .entry)) (now (room .entry)) (now (room .exit)) r ⌝ }
