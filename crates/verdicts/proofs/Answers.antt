@@ -34,13 +34,13 @@ module _ {here guard : List ℕ} {m : Found} (l : Finds _≤_ (InBoth here guard
 
 -- ---- states
 
-module _ {here : List ℕ} {leaves : Bool} (w : leaves ≡ true) {out declared : List ℕ} (s t : List ℕ) (one : (p : ℕ) → p < 1024 → has s p ≡ has here p - has out p)
-    (two : (p : ℕ) → p < 1024 → has t p ≡ has s p - has declared p) {g : Found} (k : Finds _≤_ (In t) g) where
+module _ {here : List ℕ} {leaves : Bool} (w : leaves ≡ true) {out declared : List ℕ} (s : List ℕ) (one : (p : ℕ) → p < 1024 → has s p ≡ has here p - has out p)
+    {g : Found} (k : Finds _≤_ (InOnly s declared) g) where
   pub state-live : (p : ℕ) × In here p → g ≡ Nothing → StateSets here leaves out declared Live
-  state-live some d = (some, w, none-as (left-agree s one two) (found-none _≤_ (In t) k d))
+  state-live some d = (some, w, none-as (left-agree one) (found-none _≤_ (InOnly s declared) k d))
 
   pub state-hidden : {p : ℕ} → g ≡ At p → StateSets here leaves out declared (Hidden p)
-  state-hidden d = (w, least-as (left-agree s one two) (found-at _≤_ (In t) k d))
+  state-hidden d = (w, least-as (left-agree one) (found-at _≤_ (InOnly s declared) k d))
 
 -- ---- stop lines
 
@@ -48,9 +48,9 @@ module _ {here guard : List ℕ} (s : List ℕ) (one : (p : ℕ) → p < 1024 �
   pub stop-idle : ((p : ℕ) → In s p → ⊥) → (p : ℕ) → InBoth here guard p → ⊥
   stop-idle none = none-as (both-agree one) none
 
-  module _ {out : List ℕ} (t : List ℕ) (two : (p : ℕ) → p < 1024 → has t p ≡ min (has s p) (has out p)) {g : Found} (k : Finds _≤_ (In t) g) where
+  module _ {out : List ℕ} {g : Found} (k : Finds _≤_ (InBoth s out) g) where
     pub stop-true : (p : ℕ) × In s p → g ≡ Nothing → StopSets here guard out True
-    stop-true some d = (some-as (both-agree one) some, none-as (all-agree s one two) (found-none _≤_ (In t) k d))
+    stop-true some d = (some-as (both-agree one) some, none-as (all-agree one) (found-none _≤_ (InBoth s out) k d))
 
     pub stop-untrue : {p : ℕ} → g ≡ At p → StopSets here guard out (Untrue p)
-    stop-untrue d = least-as (all-agree s one two) (found-at _≤_ (In t) k d)
+    stop-untrue d = least-as (all-agree one) (found-at _≤_ (InBoth s out) k d)
