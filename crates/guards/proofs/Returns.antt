@@ -242,31 +242,16 @@ module _ (s : List ℕ) (n : List (List ℕ)) (left at : ℕ) (r : GuardRead) (s
           w there (j .0) (i .4) (j .4),
         )
 
--- ---- read_guard
-
--- a run that begins with a letter has a byte
-run-letter : (b : ℕ) (bs : List ℕ) → isLetter b ≡ true → run (b ∷ bs) ≡ b ∷ run bs
-unfolding run
-run-letter b bs e = rw e
-
-run-some : (s : List ℕ) (at end : ℕ) → at < length s → isLetter (getD s at 0) ≡ true → RunEnd s at end → at < end
-run-some s at end l t w =
-    let f : end ≤ at → ⊥ =
-    λ m. let e : [] ≡ getD s at 0 ∷ run (drop (at + 1) s) = sym (part-none s at end m) ∙ w .inside ∙ ap run (headed s at l) ∙ run-letter (getD s at 0) (drop (at + 1) s) t in
-    let z : _≡_ {A = ℕ} 0 1 = cc in omega arith in
-    omega arith
+-- ---- read_guard and read_plain
 
 pub guard-end : (s : List ℕ) (n : List (List ℕ)) (left at : ℕ) (q : GuardRead) (to : List ℕ) → at ≡ length s → q ≡ Refused 5 at → Follows s at q to (readGuard n left (drop at s))
 guard-end s n left at q to e z =
     let d : drop at s ≡ [] = ap (λ (x : ℕ). drop x s) e ∙ drop-length s in
     refuses s at (readGuard n left (drop at s)) to z (omega arith) (ap (readGuard n left) d ∙ at-nothing n left ∙ ap (faulty 5) (sym d))
 
-module _ (s : List ℕ) (n : List (List ℕ)) (left at : ℕ) (lo : at ≤ length s) (hi : at ≡ length s → ⊥) where
+module _ (s : List ℕ) (n : List (List ℕ)) (left at : ℕ) (here : at < length s) where
   abbrev begun : Outcome
   begun = readGuard n left (drop at s)
-
-  here : at < length s
-  here = omega arith
 
   headed-by : (b : ℕ) → getD s at 0 ≡ b → drop at s ≡ b ∷ drop (at + 1) s
   headed-by b e = headed s at here ∙ ap (λ (x : ℕ). x ∷ drop (at + 1) s) e
@@ -275,10 +260,10 @@ module _ (s : List ℕ) (n : List (List ℕ)) (left at : ℕ) (lo : at ≤ lengt
   begun-by b e = ap (readGuard n left) (headed-by b e) ∙ at-byte n left b (drop (at + 1) s)
 
   pub guard-never : (to : List ℕ) → getD s at 0 ≡ 48 → Means to never → Follows s at (Upto (at + 1)) to begun
-  guard-never to e m = (never, omega arith, omega (arith, here), begun-by 48 e, m)
+  guard-never to e m = (never, omega arith, omega arith, begun-by 48 e, m)
 
   pub guard-always : (to : List ℕ) → getD s at 0 ≡ 49 → Means to always → Follows s at (Upto (at + 1)) to begun
-  guard-always to e m = (always, omega arith, omega (arith, here), begun-by 49 e, m)
+  guard-always to e m = (always, omega arith, omega arith, begun-by 49 e, m)
 
   denies : getD s at 0 ≡ 33 → (left ≡ 0 → ⊥) → begun ≡ negated (readGuard n (left - 1) (drop (at + 1) s))
   denies e d = begun-by 33 e ∙ denied-less n left (33 ∷ drop (at + 1) s) (drop (at + 1) s) d
@@ -286,11 +271,11 @@ module _ (s : List ℕ) (n : List (List ℕ)) (left at : ℕ) (lo : at ≤ lengt
   module _ (q : GuardRead) (to : List ℕ) where
     pub not-deep : getD s at 0 ≡ 33 → left ≡ 0 → q ≡ Refused 7 at → Follows s at q to begun
     not-deep e d z =
-        refuses s at begun to z lo (begun-by 33 e ∙ denied-deep n left (33 ∷ drop (at + 1) s) (drop (at + 1) s) d ∙ ap (faulty 7) (sym (headed-by 33 e)))
+        refuses s at begun to z (omega arith) (begun-by 33 e ∙ denied-deep n left (33 ∷ drop (at + 1) s) (drop (at + 1) s) d ∙ ap (faulty 7) (sym (headed-by 33 e)))
 
     pub open-deep : getD s at 0 ≡ 40 → left ≡ 0 → q ≡ Refused 7 at → Follows s at q to begun
     open-deep e d z =
-        refuses s at begun to z lo (begun-by 40 e ∙ opened-deep n left (40 ∷ drop (at + 1) s) (drop (at + 1) s) d ∙ ap (faulty 7) (sym (headed-by 40 e)))
+        refuses s at begun to z (omega arith) (begun-by 40 e ∙ opened-deep n left (40 ∷ drop (at + 1) s) (drop (at + 1) s) d ∙ ap (faulty 7) (sym (headed-by 40 e)))
 
     pub not-up : {x place : ℕ} → getD s at 0 ≡ 33 → (left ≡ 0 → ⊥) → q ≡ Refused x place
         → Follows s (at + 1) q to (readGuard n (left - 1) (drop (at + 1) s)) → Follows s at q to begun
@@ -315,21 +300,39 @@ module _ (s : List ℕ) (n : List (List ℕ)) (left at : ℕ) (lo : at ≤ lengt
 
     pub guard-fault : (q : GuardRead) (to : List ℕ) → isLetter (getD s at 0) ≡ false → q ≡ Refused 5 at → Follows s at q to begun
     guard-fault q to e z =
-        refuses s at begun to z lo (begun-kind noKind (kind-none (getD s at 0) h0 h1 h2 h3 e) ∙ ap (faulty 5) (sym (headed s at here)))
+        refuses s at begun to z (omega arith) (begun-kind noKind (kind-none (getD s at 0) h0 h1 h2 h3 e) ∙ ap (faulty 5) (sym (headed s at here)))
 
-    module _ (t : isLetter (getD s at 0) ≡ true) {end : ℕ} (w : RunEnd s at end) {f : Found} (v : f ≡ number n (take (end - at) (drop at s))) where
-      looked : begun ≡ known f (drop at s) (drop end s)
-      unfolding part
-      looked =
-          begun-kind nameKind (kind-name (getD s at 0) h0 h1 h2 h3 t)
-          ∙ ap (named n) (sym (headed s at here))
-          ∙ rw (← w .inside, ← w .after, v)
+    pub guard-named : (q : GuardRead) (to : List ℕ) → isLetter (getD s at 0) ≡ true
+        → (isLetter (getD s at 0) ≡ true → Follows s at q to (named n (drop at s))) → Follows s at q to begun
+    guard-named q to e w =
+        subst⁻¹ (λ (a : Outcome). Follows s at q to a)
+        (begun-kind nameKind (kind-name (getD s at 0) h0 h1 h2 h3 e) ∙ ap (named n) (sym (headed s at here)))
+        (w e)
 
-      pub name-unknown : (q : GuardRead) (to : List ℕ) → f ≡ Nothing → q ≡ Refused 6 at → Follows s at q to begun
-      name-unknown q to e z = refuses s at begun to z lo (looked ∙ ap (λ (x : Found). known x (drop at s) (drop end s)) e)
+-- ---- read_name
 
-      pub name-known : (to : List ℕ) {i : ℕ} → f ≡ At i → Means to (feature i) → Follows s at (Upto end) to begun
-      name-known to {i} e m = (feature i, run-some s at end here t w, w .high, looked ∙ ap (λ (x : Found). known x (drop at s) (drop end s)) e, m)
+-- a run that begins with a letter has a byte
+run-letter : (b : ℕ) (bs : List ℕ) → isLetter b ≡ true → run (b ∷ bs) ≡ b ∷ run bs
+unfolding run
+run-letter b bs e = rw e
+
+run-some : (s : List ℕ) (at end : ℕ) → at < length s → isLetter (getD s at 0) ≡ true → RunEnd s at end → at < end
+run-some s at end l t w =
+    let f : end ≤ at → ⊥ =
+    λ m. let e : [] ≡ getD s at 0 ∷ run (drop (at + 1) s) = sym (part-none s at end m) ∙ w .inside ∙ ap run (headed s at l) ∙ run-letter (getD s at 0) (drop (at + 1) s) t in
+    let z : _≡_ {A = ℕ} 0 1 = cc in omega arith in
+    omega arith
+
+module _ (s : List ℕ) (n : List (List ℕ)) (at : ℕ) (here : at < length s) {end : ℕ} (w : RunEnd s at end) {f : Found} (v : f ≡ number n (take (end - at) (drop at s))) where
+  looked : named n (drop at s) ≡ known f (drop at s) (drop end s)
+  unfolding part
+  looked = rw (← w .inside, ← w .after, v)
+
+  pub name-unknown : (q : GuardRead) (to : List ℕ) → f ≡ Nothing → q ≡ Refused 6 at → Follows s at q to (named n (drop at s))
+  name-unknown q to e z = refuses s at (named n (drop at s)) to z (omega arith) (looked ∙ ap (λ (x : Found). known x (drop at s) (drop end s)) e)
+
+  pub name-known : (to : List ℕ) {i : ℕ} → isLetter (getD s at 0) ≡ true → f ≡ At i → Means to (feature i) → Follows s at (Upto end) to (named n (drop at s))
+  name-known to {i} t e m = (feature i, run-some s at end here t w, w .high, looked ∙ ap (λ (x : Found). known x (drop at s) (drop end s)) e, m)
 
 -- ---- read_whole: a refusal leaves the empty set
 

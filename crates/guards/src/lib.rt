@@ -2,12 +2,13 @@
 // the leftmost faulty byte. The guard reader and the chain reader call each other; the parts of one
 // chain go in a loop, so that calls are never nested deeper than the guard is.
 ghost use mathlib.Core.Path.{_≡_};
+ghost use mathlib.Core.Bool.{true};
 ghost use Prim.Native.Nat.{ℕ, _+_, _≤_, _<_, min};
-ghost use lib.ListN.{length, drop};
+ghost use lib.ListN.{length, getD, drop};
 ghost use mathlib.Core.List.{List};
-ghost use Rattle.fields.specs.Bytes.{pieceOf, sameBytes};
+ghost use Rattle.fields.specs.Bytes.{pieceOf, sameBytes, isLetter};
 ghost use Rattle.guards.specs.Guard.{Guard, Operator, Parts, byteOf, Means, PartsMean};
-ghost use Rattle.guards.specs.Reading.{number, namesOf, parts, otherwise, opened, Inside, readGuard, readWhole, Reads, Follows};
+ghost use Rattle.guards.specs.Reading.{number, namesOf, named, parts, otherwise, opened, Inside, readGuard, readWhole, Reads, Follows};
 use products::Found;
 
 // How far a guard was read, or the refusal with the place of the faulty byte.
@@ -80,7 +81,7 @@ fn refuse(number: u8, at: usize) -> GuardRead
 }
 
 // The guard that begins at `at`, where `left` more may be nested. What the set holds after a refusal is
-// left open, here and in the three readers that follow.
+// left open, here and in the five readers that follow.
 fn read_guard(
     text: &[u8],
     names: &[[usize; 2]; 10],
@@ -97,14 +98,6 @@ fn read_guard(
         return refuse(5, at);
     }
     let b = field[at];
-    if b == b'0' {
-        *set = set_never();
-        return GuardRead::Upto(at + 1);
-    }
-    if b == b'1' {
-        *set = set_always();
-        return GuardRead::Upto(at + 1);
-    }
     if b == b'!' {
         if left == 0 {
             return refuse(7, at);
@@ -123,9 +116,48 @@ fn read_guard(
         }
         return read_open(text, names, count, field, at + 1, left - 1, set);
     }
+    read_plain(text, names, count, field, at, set)
+}
+
+// The guard that begins at `at` with neither `!` nor `(`: `0`, `1` or a name, however much may be nested.
+fn read_plain(
+    text: &[u8],
+    names: &[[usize; 2]; 10],
+    count: usize,
+    field: &[u8],
+    at: usize,
+    set: &mut [u64; 16],
+) -> GuardRead
+    requires { ⌜ at < length (now field) ⌝ }
+    ensures { λ r. ⌜ ((left : ℕ) → (getD (now (field .entry)) at 0 ≡ 33 → ⊥) → (getD (now (field .entry)) at 0 ≡ 40 → ⊥) → Follows (now (field .entry)) at r (now (set .exit)) (readGuard (namesOf (now (text .entry)) (now (names .entry)) (min count 10)) left (drop at (now (field .entry))))) ⌝ }
+{
+    let b = field[at];
+    if b == b'0' {
+        *set = set_never();
+        return GuardRead::Upto(at + 1);
+    }
+    if b == b'1' {
+        *set = set_always();
+        return GuardRead::Upto(at + 1);
+    }
     if !fields::is_letter(b) {
         return refuse(5, at);
     }
+    read_name(text, names, count, field, at, set)
+}
+
+// The name that begins at `at`, where a letter stands: the set of its feature.
+fn read_name(
+    text: &[u8],
+    names: &[[usize; 2]; 10],
+    count: usize,
+    field: &[u8],
+    at: usize,
+    set: &mut [u64; 16],
+) -> GuardRead
+    requires { ⌜ at < length (now field) ⌝ }
+    ensures { λ r. ⌜ (isLetter (getD (now (field .entry)) at 0) ≡ true → Follows (now (field .entry)) at r (now (set .exit)) (named (namesOf (now (text .entry)) (now (names .entry)) (min count 10)) (drop at (now (field .entry))))) ⌝ }
+{
     let e = fields::run_end(field, at);
     let f = find_name(text, names, count, &field[at..e]);
     let Found::At(i) = f else {

@@ -1,14 +1,13 @@
 -- The four readers meet their contracts. Measure: twice the bytes left, and one more where the next call may be at the same place. The chain's
 -- loop keeps `Chained`. Each return is one law of Returns. Assumes nothing.
 use borrow.Author.Needs.{needs}
-use mathlib.Core.Path.{refl, sym, _∙_}
+use mathlib.Core.Path.{refl}
 use Prim.Native.Nat.{ℕ, _+_, _-_, _*_, _<_, min}
 use native.Mathlib.Omega.{arith}
 use lib.ListN.{length}
-use borrow.Author.Tests.{not-true, not-false}
 use Rattle.guards.specs.Guard.{conj, disj}
 use Rattle.guards.specs.Reading.{otherwise, afterFirst, namesOf}
-use Rattle.guards.proofs.Returns.{Chained, ahead, chain-done, chain-end, chain-fault, chain-more, chain-up, chained-none, choice-done, choice-end, choice-fault, choice-open, choice-stop, choice-up, guard-always, guard-end, guard-fault, guard-never, handed-on, name-known, name-unknown, not-deep, not-done, not-up, open-chain, open-choice, open-deep, open-done, open-end, open-fault}
+use Rattle.guards.proofs.Returns.{Chained, ahead, chain-done, chain-end, chain-fault, chain-more, chain-up, chained-none, choice-done, choice-end, choice-fault, choice-open, choice-stop, choice-up, guard-end, handed-on, not-deep, not-done, not-up, open-chain, open-choice, open-deep, open-done, open-end, open-fault}
 use borrow.Fn.Kinds.{In}
 use borrow.Fn.PlainCycle.{Measures, is, falls, and}
 use Rattle.guards.proofs.read_chain.Reads as read-chain
@@ -23,15 +22,10 @@ use Rattle.guards.proofs.+read_chain+read_choice+read_guard+read_open.L
 use Rattle.guards.proofs.read_open.Reads as read-open
 use Rattle.guards.proofs.read_open.Kinds as read-open-kinds
 use Rattle.guards.proofs.+read_chain+read_choice+read_guard+read_open.Lts-read_open as read-open-lts
-use Rattle.fields.proofs.is_letter.Reads as is-letter-reads
-use Rattle.fields.proofs.run_end.Reads as run-end-reads
-use Rattle.guards.proofs.find_name.Reads as find-name-reads
+use Rattle.guards.proofs.read_plain.Reads as read-plain-reads
 use Rattle.guards.proofs.refuse.Reads as refuse-reads
-use Rattle.guards.proofs.set_always.Reads as set-always-reads
 use Rattle.guards.proofs.set_choice.Reads as set-choice-reads
-use Rattle.guards.proofs.lay_feature.Reads as lay-feature-reads
 use Rattle.guards.proofs.set_joined.Reads as set-joined-reads
-use Rattle.guards.proofs.set_never.Reads as set-never-reads
 use Rattle.guards.proofs.set_not.Reads as set-not-reads
 use Rattle.guards.proofs.+read_chain+read_choice+read_guard+read_open.{statement}
 use Rattle.guards.proofs.+read_chain+read_choice+read_guard+read_open.Tie.{close}
@@ -168,47 +162,27 @@ read-choice-closed M t =
 read-guard-closed : (M : Type 1) (t : ℕ) → read-guard-lts.Closed (
   refuse-reads.Asked,
   refuse-reads.Learnt,
-  set-never-reads.Asked,
-  set-never-reads.Learnt,
-  set-always-reads.Asked,
-  set-always-reads.Learnt,
   read-guard-below t,
   read-guard.Post,
   set-not-reads.Asked,
   set-not-reads.Learnt,
   read-open-below t,
   read-open.Post,
-  is-letter-reads.Asked,
-  is-letter-reads.Learnt,
-  run-end-reads.Asked,
-  run-end-reads.Learnt,
-  find-name-reads.Asked,
-  find-name-reads.Learnt,
-  lay-feature-reads.Asked,
-  lay-feature-reads.Learnt,
+  read-plain-reads.Asked,
+  read-plain-reads.Learnt,
 ) (read-guard-at t) read-guard.Post M
 read-guard-closed M t =
     read-guard-lts.spec (
       refuse-reads.Asked,
       refuse-reads.Learnt,
-      set-never-reads.Asked,
-      set-never-reads.Learnt,
-      set-always-reads.Asked,
-      set-always-reads.Learnt,
       read-guard-below t,
       read-guard.Post,
       set-not-reads.Asked,
       set-not-reads.Learnt,
       read-open-below t,
       read-open.Post,
-      is-letter-reads.Asked,
-      is-letter-reads.Learnt,
-      run-end-reads.Asked,
-      run-end-reads.Learnt,
-      find-name-reads.Asked,
-      find-name-reads.Learnt,
-      lay-feature-reads.Asked,
-      lay-feature-reads.Learnt,
+      read-plain-reads.Asked,
+      read-plain-reads.Learnt,
     )
     (read-guard-at t)
     read-guard.Post
@@ -216,41 +190,23 @@ read-guard-closed M t =
     (λ c. guard-end _ _ _ _ _ _ (c .before .if1 .taken) (c .refuse .ensures))
     (λ c. search needs)
     (λ c κs. search needs)
-    (λ c. search needs)
-    (λ c. let b = c .before .before .before in guard-never _ _ _ _ (b .before .before .before .pre .1) (b .if1 .left) _ (c .before .if2 .taken) (c .set-never .ensures))
-    (λ c κs. search needs)
-    (λ c. search needs)
-    (λ c. let b = c .before .before .before .before in guard-always _ _ _ _ (b .before .before .before .pre .1) (b .if1 .left) _ (c .before .if3 .taken) (c .set-always .ensures))
-    (λ c κs. search needs)
-    (λ c. let b = c .before .before .before .before .before .before in not-deep _ _ _ _ (b .before .before .before .pre .1) (b .if1 .left) _ _ (c .before .before .if4 .taken) (c .before .if5 .taken) (c .refuse2 .ensures))
+    (λ c. not-deep _ _ _ _ (omega arith) _ _ (c .before .before .if2 .taken) (c .before .if3 .taken) (c .refuse2 .ensures))
     (λ c. search needs)
     (λ c. search needs)
     (λ c κs. search needs)
     (λ c. search needs)
     (λ c. search needs)
-    (λ c. let b = c .before .before .before .before .before .before .before .before .before in not-up _ _ _ _ (b .before .before .before .pre .1) (b .if1 .left) _ _ (c .before .before .before .before .before .if4 .taken) (c .before .before .before .before .if5 .left) (c .enum-told2 .given .1) (c .before .before .read-guard .ensures))
+    (λ c. not-up _ _ _ _ (omega arith) _ _ (c .before .before .before .before .before .if2 .taken) (c .before .before .before .before .if3 .left) (c .enum-told2 .given .1) (c .before .before .read-guard .ensures))
     (λ c κs. search needs)
-    (λ c. let g = c .before .before in let b = g .before .before .before .before .before .before .before .before .before in not-done _ _ _ _ (b .before .before .before .pre .1) (b .if1 .left) _ _ _ (g .before .before .before .before .before .if4 .taken) (g .before .before .before .before .if5 .left) (g .enum-told .given .1) (g .before .before .read-guard .ensures) (c .set-not .ensures))
+    (λ c. let g = c .before .before in not-done _ _ _ _ (omega arith) _ _ _ (g .before .before .before .before .before .if2 .taken) (g .before .before .before .before .if3 .left) (g .enum-told .given .1) (g .before .before .read-guard .ensures) (c .set-not .ensures))
     (λ c κs. search needs)
-    (λ c. let b = c .before .before .before .before .before .before .before in open-deep _ _ _ _ (b .before .before .before .pre .1) (b .if1 .left) _ _ (c .before .before .if6 .taken) (c .before .if7 .taken) (c .refuse3 .ensures))
+    (λ c. open-deep _ _ _ _ (omega arith) _ _ (c .before .before .if4 .taken) (c .before .if5 .taken) (c .refuse3 .ensures))
     (λ c. search needs)
     (λ c. search needs)
     (λ c κs. search needs)
-    (λ c. let b = c .before .before .before .before .before .before .before .before in open-done _ _ _ _ (b .before .before .before .pre .1) (b .if1 .left) (c .read-open .result) _ (c .before .before .before .if6 .taken) (c .before .before .if7 .left) (c .read-open .ensures))
+    (λ c. open-done _ _ _ _ (omega arith) (c .read-open .result) _ (c .before .before .before .if4 .taken) (c .before .before .if5 .left) (c .read-open .ensures))
     (λ c κs. search needs)
-    (λ c κs. search needs)
-    (λ c. let n = c .before .before in let b = n .before .before .before .before .before .before in guard-fault _ _ _ _ (b .before .before .before .pre .1) (b .if1 .left) (n .before .before .before .before .if2 .left) (n .before .before .before .if3 .left) (n .before .before .if4 .left) (n .before .if6 .left) _ _ (sym (n .is-letter .ensures) ∙ not-true _ (c .before .if8 .taken)) (c .refuse4 .ensures))
-    (λ c κs. search needs)
-    (λ c. let l = c .run-end .ensures .low (c .before .before .before .before .before .before .before .before .before .before .before .pre .1) in omega arith)
-    (λ c. let l = c .run-end .ensures .low (c .before .before .before .before .before .before .before .before .before .before .before .pre .1) in omega arith)
-    (λ c. let l = c .run-end .ensures .low (c .before .before .before .before .before .before .before .before .before .before .before .pre .1) in omega arith)
-    (λ c κs. search needs)
-    (λ c. search needs)
-    (λ c. search needs)
-    (λ c κs. search needs)
-    (λ c. let n = c .before .before .before .before .before .before .before in let b = n .before .before .before .before .before .before in name-unknown _ _ _ _ (b .before .before .before .pre .1) (b .if1 .left) (n .before .before .before .before .if2 .left) (n .before .before .before .if3 .left) (n .before .before .if4 .left) (n .before .if6 .left) (sym (n .is-letter .ensures) ∙ not-false _ (c .before .before .before .before .before .before .if8 .left)) (c .before .before .before .before .before .run-end .ensures) (c .before .before .before .find-name .ensures) _ _ (c .before .enum-told3 .given .1) (c .refuse5 .ensures))
-    (λ c κs. search needs)
-    (λ c. let f = c .before .before .before in let n = f .before .before .before .before .before .before in let b = n .before .before .before .before .before .before in name-known _ _ _ _ (b .before .before .before .pre .1) (b .if1 .left) (n .before .before .before .before .if2 .left) (n .before .before .before .if3 .left) (n .before .before .if4 .left) (n .before .if6 .left) (sym (n .is-letter .ensures) ∙ not-false _ (f .before .before .before .before .before .if8 .left)) (f .before .before .before .before .run-end .ensures) (f .before .before .find-name .ensures) _ (f .f .given .1) (c .lay-feature .ensures))
+    (λ c. c .read-plain .ensures _ (c .before .before .before .if2 .left) (c .before .before .if4 .left))
 
 read-open-closed : (M : Type 1) (t : ℕ) → read-open-lts.Closed (
   read-guard-below t,
