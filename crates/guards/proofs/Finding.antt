@@ -2,7 +2,7 @@
 -- Assumes nothing.
 use mathlib.Core.Path.{_≡_, refl, sym, ap, _∙_}
 use mathlib.Core.Bool.{Bool, true, false, cond}
-use mathlib.Core.List.{List, [], _∷_}
+use mathlib.Core.List.{List, []}
 use Prim.Native.Nat.{ℕ, zero, suc, _-_, _≤_, _<_}
 use native.Mathlib.Omega.{arith}
 use lib.ListN.{length, getD}
@@ -15,10 +15,6 @@ abbrev pub rowName : List ℕ → List (List ℕ) → ℕ → List ℕ
 rowName s t k = pieceOf s (getD (getD t k []) 0 0) (getD (getD t k []) 1 0)
 
 module _ (s : List ℕ) (t : List (List ℕ)) where
-  pub names-more : (k : ℕ) → namesOf s t (suc k) ≡ rowName s t k ∷ namesOf s t k
-  unfolding namesOf
-  names-more k = refl
-
   pub names-length : (k : ℕ) → length (namesOf s t k) ≡ k
   unfolding namesOf
   names-length zero = refl

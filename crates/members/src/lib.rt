@@ -2,19 +2,8 @@
 ghost use mathlib.Core.Path.{_≡_};
 ghost use mathlib.Core.Bool.{true, false, not};
 ghost use Prim.Native.Nat.{ℕ, _+_, _*_, _<_, _≤_};
-ghost use lib.Dec.{eqb};
-ghost use Rattle.products.specs.Sets.{bit, has, oneIf, In, Picked, InBoth, InOnly, Finds, countTo};
+ghost use Rattle.products.specs.Sets.{bit, oneIf, In, Picked, InBoth, InOnly, Finds, countTo};
 use products::Found;
-
-// Whether s has product p. No set has a product from 1,024 on.
-pub fn contains(s: [u64; 16], p: usize) -> bool
-    ensures { λ r. ⌜ r ≡ eqb (has s p) 1 ⌝ }
-{
-    if 1024 <= p {
-        return false;
-    }
-    (s[p / 64] >> (p % 64)) % 2 == 1
-}
 
 // Whether a and b have the same products.
 pub fn same(a: [u64; 16], b: [u64; 16]) -> bool

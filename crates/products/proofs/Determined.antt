@@ -1,5 +1,4 @@
--- Each promise determines the answer: two answers that meet it are equal. The promises of `contains` and `count` are equations, and need no
--- law. Assumes nothing.
+-- Each promise determines the answer: two answers that meet it are equal. The promise of `count` is an equation, and needs no law. Assumes nothing.
 use mathlib.Core.Path.{_≡_, refl, sym, ap, _∙_}
 use mathlib.Core.Bool.{Bool, true, false}
 use mathlib.Core.List.{List}

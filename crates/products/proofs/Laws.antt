@@ -6,10 +6,8 @@ use Prim.Native.Nat.{ℕ, zero, suc, _+_, _*_, _/_, _%_, _^_, _<_, _≤_}
 use native.Mathlib.Omega.{arith}
 use native.Mathlib.Numerals.{add-one}
 use native.Mathlib.Nat.{add-zero}
-use borrow.Author.Tests.{ne-eqb}
 use lib.Count.{ones}
-use lib.Dec.{eqb}
-use lib.ListN.{getD, length, replicate, getD-replicate, List·getD-eq-default}
+use lib.ListN.{getD, replicate, getD-replicate}
 use lib.Seq.{ext-getD}
 use Rattle.products.specs.Sets.{bit, has, oneIf, countTo, Words}
 use Rattle.products.proofs.Bits.{eq-bits, zero-bit, ones-bit, bits, ones-bits}
@@ -26,15 +24,6 @@ has-at s w b lt =
     let i : (w * 64 + b) / 64 ≡ w = omega arith in
     let j : (w * 64 + b) % 64 ≡ b = omega arith in
     rw (i, j)
-
--- no set has a product from 1,024 on
-pub has-past : (s : List ℕ) (p : ℕ) → length s ≡ 16 → 1024 ≤ p → has s p ≡ 0
-unfolding has
-has-past s p long le = rw (List·getD-eq-default s 0 {n = p / 64} (omega arith)) (zero-bit (p % 64))
-
--- so the answer of `contains` there is no
-pub contains-past : (s : List ℕ) (p : ℕ) → length s ≡ 16 → 1024 ≤ p → eqb (has s p) 1 ≡ false
-contains-past s p long le = ne-eqb (has s p) 1 (λ e. omega (arith, has-past s p long le))
 
 -- two sets with the same members are the same words
 pub same-members : {a b : List ℕ} → Words a → Words b → ((p : ℕ) → p < 1024 → has a p ≡ has b p) → a ≡ b
