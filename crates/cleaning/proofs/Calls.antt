@@ -99,8 +99,8 @@ module _ {s order : List ℕ} {c : Counts} {T : Tables} {sets : List (List ℕ)}
       (textOf f, record { form = f; clean = established s c T sets (p .first) order many f (p .sheet) (p .ready) (p .orders) form; is = refl }, w)
 
   -- the text is longer than the room l, or than 65,536
-  pub too-long : {d d′ : List ℕ} {n : ℕ} {most : ℕ} (l : List ℕ) → Lays d d′ n → most ≡ min (length l) 65536 → most < n → (l ≡ l) × ((readSheet s ≡ refused 11 0) ⊎ TooLong s l 11 0)
-  too-long l run e h =
+  pub too-long : {d d′ : List ℕ} {n : ℕ} (l : List ℕ) → Lays d d′ n → min (length l) 65536 < n → (l ≡ l) × ((readSheet s ≡ refused 11 0) ⊎ TooLong s l 11 0)
+  too-long l run h =
       let (vs, is, w) = lays run in
       let place = dry-place w in
       (refl, inr (record { number = refl; line = refl; sheet = p .sheet; accepted = p .read; text = vs; clean = is; longer = longer-than (length l) 65536 (omega arith) }))
@@ -122,8 +122,8 @@ module _ {s order : List ℕ} {c : Counts} {T : Tables} {sets : List (List ℕ)}
       }
 
   -- the text was copied from the buffer, which it fits
-  pub copied : {d d′ l l′ : List ℕ} {n k most : ℕ} → Lays d d′ n → Wrote l 0 (take (n - 0) (drop 0 d′)) l′ k → n ≤ length d′ → most ≡ min (length l) 65536 → n ≤ most → Cleaned s l l′ k
-  copied {n = n} run w own e h =
+  pub copied : {d d′ l l′ : List ℕ} {n k : ℕ} → Lays d d′ n → Wrote l 0 (take (n - 0) (drop 0 d′)) l′ k → n ≤ length d′ → n ≤ min (length l) 65536 → Cleaned s l l′ k
+  copied {n = n} run w own h =
       let (vs, is, v) = lays run in
       let place = dry-place v in
       let same = wrote-long v in
@@ -131,8 +131,8 @@ module _ {s order : List ℕ} {c : Counts} {T : Tables} {sets : List (List ℕ)}
       cleaned is (rw (long, wrote-text v (omega arith)) at w) (omega arith)
 
   -- it was made once more
-  pub again : {d d′ l l′ : List ℕ} {n k most : ℕ} → Lays d d′ n → Lays l l′ k → most ≡ min (length l) 65536 → n ≤ most → Cleaned s l l′ k
-  again dry run e h =
+  pub again : {d d′ l l′ : List ℕ} {n k : ℕ} → Lays d d′ n → Lays l l′ k → n ≤ min (length l) 65536 → Cleaned s l l′ k
+  again dry run h =
       let (us, is-dry, u) = lays dry in
       let (vs, is, w) = lays run in
       let place = dry-place (rw (is-clean-unique is-dry is) at u) in

@@ -1,6 +1,7 @@
 -- `lay_by`: refused by 11, with the room as it was, by what the first run tells; copied from that run's buffer; or made once more. Assumes nothing.
 use Rattle.cleaning.proofs.Calls.{too-long, copied, again}
 use borrow.Author.Needs.{needs}
+use native.Mathlib.Omega.{arith}
 use Rattle.cleaning.proofs.lay_by.Statement.{statement}
 use Rattle.cleaning.proofs.lay_by.Tie as tie
 
@@ -15,7 +16,7 @@ returns c = λ t h p.
     let test = c .before in
     let most = test .before in
     let run = most .before .before .before in
-    rw (c .refuse .ensures) (too-long p _ (run .put-clean .ensures t h) (most .at-most .ensures) (test .if1 .taken))
+    rw (c .refuse .ensures) (too-long p _ (run .put-clean .ensures t h) (omega (arith, most .at-most .ensures, test .if1 .taken)))
 
 returns-2 : tie.Need-returns-2
 returns-2 c = λ t h p.
@@ -24,7 +25,7 @@ returns-2 c = λ t h p.
     let test = fits .before in
     let most = test .before in
     let run = most .before .before .before in
-    copied p (run .put-clean .ensures t h) (copy .put-bytes .ensures) (fits .if2 .taken) (most .at-most .ensures) (test .if1 .left)
+    copied p (run .put-clean .ensures t h) (copy .put-bytes .ensures) (fits .if2 .taken) (omega (arith, most .at-most .ensures, test .if1 .left))
 
 returns-3 : tie.Need-returns-3
 returns-3 c = λ t h p.
@@ -32,7 +33,7 @@ returns-3 c = λ t h p.
     let test = once-more .before .before .before in
     let most = test .before in
     let run = most .before .before .before in
-    again p (run .put-clean .ensures t h) (once-more .put-clean2 .ensures t h) (most .at-most .ensures) (test .if1 .left)
+    again p (run .put-clean .ensures t h) (once-more .put-clean2 .ensures t h) (omega (arith, most .at-most .ensures, test .if1 .left))
 
 pub lay-by-spec : {M : Type 1} → statement M
 lay-by-spec =
