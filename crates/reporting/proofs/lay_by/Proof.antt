@@ -14,7 +14,7 @@ returns c = λ s r read ready deep.
     let first = c .before .before .before .before in
     let start = first .before .before .before .before in
     let b : length (start .args .room .now) < limit = omega (arith, start .good) in
-    rw (c .refuse .ensures) (too-long (first .put-report .ensures) b s r read ready deep (c .before .if1 .taken))
+    rw (c .refuse .ensures) (too-long (first .put-report .ensures) b s r read ready deep (omega (arith, c .before .if1 .taken)))
 
 returns-2 : tie.Need-returns-2
 returns-2 c = λ s r read ready deep.
@@ -24,7 +24,7 @@ returns-2 c = λ s r read ready deep.
     let start = first .before .before .before .before in
     let b : length (start .args .room .now) < limit = omega (arith, start .good) in
     let o : length (start .args .own .now) < limit = omega (arith, start .good) in
-    copied (first .put-report .ensures) b s r read ready deep (fits .if1 .left) o (short .if2 .taken) (c .before .before .put-bytes .ensures)
+    copied (first .put-report .ensures) b s r read ready deep (omega (arith, fits .if1 .left)) o (short .if2 .taken) (c .before .before .put-bytes .ensures)
 
 returns-3 : tie.Need-returns-3
 returns-3 c = λ s r read ready deep.
@@ -32,7 +32,7 @@ returns-3 c = λ s r read ready deep.
     let first = fits .before .before .before in
     let start = first .before .before .before .before in
     let b : length (start .args .room .now) < limit = omega (arith, start .good) in
-    done (first .put-report .ensures) b s r read ready deep (fits .if1 .left) (c .before .before .put-report2 .ensures)
+    done (first .put-report .ensures) b s r read ready deep (omega (arith, fits .if1 .left)) (c .before .before .put-report2 .ensures)
 
 pub lay-by-spec : {M : Type 1} → statement M
 lay-by-spec =
