@@ -37,11 +37,15 @@ const FEW: usize = 32;
 
 const SHORT: usize = 2048;
 
-// A text of at most SMALL_TEXT bytes has at most 16 move lines and 24 stop lines, one of at most
-// MIDDLE_TEXT bytes at most 144 move lines. Nothing hangs on these sizes but speed.
+// How long a text may be for each size of tables: a move line has at least 13 bytes and a stop line 9, so
+// that these have at most 16, 36, 90 and 144 move lines. Nothing hangs on the sizes but speed.
 const SMALL_TEXT: usize = 208;
 
-const MIDDLE_TEXT: usize = 1872;
+const SHORT_TEXT: usize = 468;
+
+const MIDDLE_TEXT: usize = 1170;
+
+const LONG_TEXT: usize = 1872;
 
 // Lays the clean form of the sheet `text` into `room`, by way of tables whose size goes by the text's
 // length.
@@ -51,8 +55,14 @@ pub fn clean(text: &[u8], room: &mut [u8]) -> Answer
     if text.len() <= SMALL_TEXT {
         return clean_small(text, room);
     }
+    if text.len() <= SHORT_TEXT {
+        return clean_short(text, room);
+    }
     if text.len() <= MIDDLE_TEXT {
         return clean_middle(text, room);
+    }
+    if text.len() <= LONG_TEXT {
+        return clean_long(text, room);
     }
     clean_large(text, room)
 }
@@ -76,8 +86,46 @@ fn clean_small(text: &[u8], room: &mut [u8]) -> Answer
     )
 }
 
+// The same for a short text.
+fn clean_short(text: &[u8], room: &mut [u8]) -> Answer
+    requires { ⌜ length (now text) ≤ 468 ⌝ }
+    ensures { λ r. ⌜ CleanPromise (now (text .entry)) (now (room .entry)) (now (room .exit)) r ⌝ }
+{
+    let mut moves = [[0usize; 6]; 36];
+    let mut move_guards = [[0u64; 16]; 36];
+    let mut stops = [[0usize; 2]; 52];
+    let mut stop_guards = [[0u64; 16]; 52];
+    clean_by(
+        text,
+        room,
+        &mut moves,
+        &mut move_guards,
+        &mut stops,
+        &mut stop_guards,
+    )
+}
+
 // The same for a text of middle length.
 fn clean_middle(text: &[u8], room: &mut [u8]) -> Answer
+    requires { ⌜ length (now text) ≤ 1170 ⌝ }
+    ensures { λ r. ⌜ CleanPromise (now (text .entry)) (now (room .entry)) (now (room .exit)) r ⌝ }
+{
+    let mut moves = [[0usize; 6]; 90];
+    let mut move_guards = [[0u64; 16]; 90];
+    let mut stops = [[0usize; 2]; 64];
+    let mut stop_guards = [[0u64; 16]; 64];
+    clean_by(
+        text,
+        room,
+        &mut moves,
+        &mut move_guards,
+        &mut stops,
+        &mut stop_guards,
+    )
+}
+
+// The same for a long text.
+fn clean_long(text: &[u8], room: &mut [u8]) -> Answer
     requires { ⌜ length (now text) ≤ 1872 ⌝ }
     ensures { λ r. ⌜ CleanPromise (now (text .entry)) (now (room .entry)) (now (room .exit)) r ⌝ }
 {

@@ -74,8 +74,14 @@ enough s k d a b = rw (rows-long k 6, rows-long k 16, rows-long d 2, rows-long d
 pub enough-small : (s : List ℕ) → length s ≤ 208 → Enough s 16 24
 enough-small s l = enough s 16 24 (omega arith) (omega arith)
 
-pub enough-middle : (s : List ℕ) → length s ≤ 1872 → Enough s 144 64
-enough-middle s l = enough s 144 64 (omega arith) (omega arith)
+pub enough-short : (s : List ℕ) → length s ≤ 468 → Enough s 36 52
+enough-short s l = enough s 36 52 (omega arith) (omega arith)
+
+pub enough-middle : (s : List ℕ) → length s ≤ 1170 → Enough s 90 64
+enough-middle s l = enough s 90 64 (omega arith) (omega arith)
+
+pub enough-long : (s : List ℕ) → length s ≤ 1872 → Enough s 144 64
+enough-long s l = enough s 144 64 (omega arith) (omega arith)
 
 pub enough-any : (s : List ℕ) → Enough s 256 64
 enough-any s = enough s 256 64 (omega arith) (omega arith)

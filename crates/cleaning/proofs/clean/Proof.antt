@@ -7,8 +7,14 @@ use Rattle.cleaning.proofs.clean.Tie as tie
 clean-small-requires : tie.Need-clean-small-requires
 clean-small-requires c κs = omega arith
 
+clean-short-requires : tie.Need-clean-short-requires
+clean-short-requires c κs = omega arith
+
 clean-middle-requires : tie.Need-clean-middle-requires
 clean-middle-requires c κs = omega arith
+
+clean-long-requires : tie.Need-clean-long-requires
+clean-long-requires c κs = omega arith
 
 pub clean-spec : {M : Type 1} → statement M
 clean-spec =
@@ -17,7 +23,13 @@ clean-spec =
     clean-small-requires
     (λ c. search needs)
     (λ c. search needs)
+    clean-short-requires
+    (λ c. search needs)
+    (λ c. search needs)
     clean-middle-requires
+    (λ c. search needs)
+    (λ c. search needs)
+    clean-long-requires
     (λ c. search needs)
     (λ c. search needs)
     (λ c κs. search needs)

@@ -7,8 +7,14 @@ use Rattle.reporting.proofs.report.Tie as tie
 report-small-requires : tie.Need-report-small-requires
 report-small-requires c κs = omega (arith, c .before .if1 .taken)
 
+report-short-requires : tie.Need-report-short-requires
+report-short-requires c κs = omega (arith, c .before .if2 .taken)
+
 report-middle-requires : tie.Need-report-middle-requires
-report-middle-requires c κs = omega (arith, c .before .if2 .taken)
+report-middle-requires c κs = omega (arith, c .before .if3 .taken)
+
+report-long-requires : tie.Need-report-long-requires
+report-long-requires c κs = omega (arith, c .before .if4 .taken)
 
 pub report-spec : {M : Type 1} → statement M
 report-spec =
@@ -17,7 +23,13 @@ report-spec =
     report-small-requires
     (λ c. search needs)
     (λ c. search needs)
+    report-short-requires
+    (λ c. search needs)
+    (λ c. search needs)
     report-middle-requires
+    (λ c. search needs)
+    (λ c. search needs)
+    report-long-requires
     (λ c. search needs)
     (λ c. search needs)
     (λ c κs. search needs)

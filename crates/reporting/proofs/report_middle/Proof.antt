@@ -1,4 +1,4 @@
--- `report_middle`: the tables are blank, and their 144 and 64 rows are enough for a text of at most 1872 bytes. Assumes nothing.
+-- `report_middle`: the tables are blank, and their 90 and 64 rows are enough for a text of at most 1170 bytes. Assumes nothing.
 use borrow.Author.Needs.{needs}
 use Rattle.reporting.proofs.Calls.{lent-blank, enough-middle}
 use Rattle.reporting.proofs.report_middle.Statement.{statement}
@@ -7,7 +7,7 @@ use Rattle.reporting.proofs.report_middle.Tie as tie
 report-by-requires : tie.Need-report-by-requires
 report-by-requires c κs =
     let start = c .before .before .before .before .before .before .before in
-    (lent-blank 144 64, enough-middle (start .args .text .now) (start .pre))
+    (lent-blank 90 64, enough-middle (start .args .text .now) (start .pre))
 
 pub report-middle-spec : {M : Type 1} → statement M
 report-middle-spec =

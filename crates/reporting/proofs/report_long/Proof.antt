@@ -1,0 +1,22 @@
+-- `report_long`: the tables are blank, and their 144 and 64 rows are enough for a text of at most 1872 bytes. Assumes nothing.
+use borrow.Author.Needs.{needs}
+use Rattle.reporting.proofs.Calls.{lent-blank, enough-long}
+use Rattle.reporting.proofs.report_long.Statement.{statement}
+use Rattle.reporting.proofs.report_long.Tie as tie
+
+report-by-requires : tie.Need-report-by-requires
+report-by-requires c κs =
+    let start = c .before .before .before .before .before .before .before in
+    (lent-blank 144 64, enough-long (start .args .text .now) (start .pre))
+
+pub report-long-spec : {M : Type 1} → statement M
+report-long-spec =
+    tie.close
+    (tie.spec
+    (λ c. search needs)
+    (λ c. search needs)
+    (λ c. search needs)
+    (λ c. search needs)
+    report-by-requires
+    (λ c. search needs)
+    (λ c. search needs))
