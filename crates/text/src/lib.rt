@@ -85,15 +85,25 @@ fn digit(n: usize) -> u8
     n as u8 + 48
 }
 
-// Lays n in decimal digits, without leading zeros. From 1000 on it calls itself on what stands before
-// the last digit, so at most 18 deep.
+// Lays n in decimal digits, without leading zeros. Numbers below 1000 need no call that nests.
 pub fn put_number(room: &mut [u8], at: usize, n: usize) -> usize
     ensures { λ r. ⌜ Wrote (now (room .entry)) at (decimal n) (now (room .exit)) r ⌝ }
 {
     if n < 1000 {
         return put_small(room, at, n);
     }
-    let next = put_number(room, at, n / 10);
+    put_long(room, at, n)
+}
+
+// The same for every n: from 1000 on it calls itself on what stands before the last digit, so at most 18
+// deep.
+fn put_long(room: &mut [u8], at: usize, n: usize) -> usize
+    ensures { λ r. ⌜ Wrote (now (room .entry)) at (decimal n) (now (room .exit)) r ⌝ }
+{
+    if n < 1000 {
+        return put_small(room, at, n);
+    }
+    let next = put_long(room, at, n / 10);
     put(room, next, digit(n % 10))
 }
 
