@@ -1,16 +1,14 @@
 -- Looking for a byte. What is passed is not the byte; so where the search stops is the first place that is. Assumes nothing.
-use mathlib.Core.Bool.{Bool, true, false, _||_}
 use mathlib.Core.List.{List}
 use mathlib.Core.Logic.{_⊎_, inl, inr, ⊎-elim}
-use mathlib.Core.Path.{_≡_, refl, ap, _∙_}
-use Prim.Native.Nat.{ℕ, zero, suc, _+_, _-_, _≤_, _<_}
-use native.Mathlib.Nat.{add-zero}
+use mathlib.Core.Path.{_≡_, ap, _∙_}
+use Prim.Native.Nat.{ℕ, zero, suc, _+_, _-_, _/_, _^_, _≤_, _<_}
 use native.Mathlib.Omega.{arith}
-use lib.Dec.{eqb}
+use lib.Count.{trailingZeros, trailing-of-zero}
 use lib.ListN.{length, getD}
-use borrow.Author.Count.{below-more}
-use borrow.Author.Tests.{eqb-true, eqb-false}
 use Rattle.fields.specs.Bytes.{FirstAt}
+use Rattle.fields.specs.Words.{FirstOf}
+use Rattle.fields.proofs.Words.{zeros-some}
 
 -- ---- from place to place
 
@@ -27,8 +25,8 @@ side (suc k) (suc i) = ⊎-elim (λ h. inl (omega arith)) (λ h. inr (omega arit
 pub passed-none : (s : List ℕ) (m from : ℕ) → Passed s m from from
 passed-none s m from = record { low = omega arith; none = λ k l h. absurd (omega arith) }
 
-pub passed-eight : {s : List ℕ} {m from i : ℕ} → Passed s m from i → ((k : ℕ) → k < 8 → getD s (i + k) 0 ≡ m → ⊥) → Passed s m from (i + 8)
-passed-eight {s} {i = i} p f = record {
+passed-more : {s : List ℕ} {m from i : ℕ} (n : ℕ) → Passed s m from i → ((k : ℕ) → k < n → getD s (i + k) 0 ≡ m → ⊥) → Passed s m from (i + n)
+passed-more {s} {i = i} n p f = record {
   low = let l = p .low in omega arith;
   none = λ k b h e.
       let at : i ≤ k → i + (k - i) ≡ k = λ l. omega arith in
@@ -45,30 +43,14 @@ first-later {i = i} {r = r} p f = record {
 pub first-none : {s : List ℕ} {m from i : ℕ} → Passed s m from i → length s ≤ i → FirstAt s m from (length s)
 first-none p end = record { high = omega arith; clear = λ k l h. p .none k (omega arith) h; here = λ l. absurd (omega arith) }
 
--- ---- some bytes by one test
+-- ---- eight bytes at once, by their marks t
 
-either-false : (t u : Bool) → (t || u) ≡ false → (t ≡ false) × (u ≡ false)
-either-false true u e = let z : _≡_ {A = ℕ} 0 1 = cc in absurd (omega arith)
-either-false false u e = (refl, e)
+module _ {s : List ℕ} {m from i : ℕ} (t : ℕ) (p : Passed s m from i) (f : FirstOf (λ k. getD s (i + k) 0) m 8 (trailingZeros 64 t / 8)) where
+  pub passed-eight : t ≡ 0 → Passed s m from (i + 8)
+  passed-eight e = passed-more 8 p (λ k b. f .clear k (omega (arith, ap (trailingZeros 64) e, trailing-of-zero 64)))
 
-either-true : (t u : Bool) → (t || u) ≡ true → (t ≡ true) ⊎ (u ≡ true)
-either-true true u e = inl refl
-either-true false u e = inr e
-
--- whether one of the bytes from i to i + n is m
-abbrev among : (s : List ℕ) (m i n : ℕ) → Bool
-among s m i zero = eqb (getD s i 0) m
-among s m i (suc n) = among s m i n || eqb (getD s (i + suc n) 0) m
-
-module _ (s : List ℕ) (m i : ℕ) where
-  pub among-none : (n : ℕ) → among s m i n ≡ false → (k : ℕ) → k < suc n → getD s (i + k) 0 ≡ m → ⊥
-  among-none zero h zero l e = eqb-false (getD s i 0) m h (rw add-zero at e)
-  among-none zero h (suc k) l e = absurd (omega arith)
-  among-none (suc n) h k l e =
-      let x = either-false (among s m i n) _ h in
-      below-more (λ j. getD s (i + j) 0 ≡ m → ⊥) (suc n) (among-none n (x .0)) (eqb-false _ m (x .1)) k (omega arith) e
-
-  pub among-some : (n : ℕ) → among s m i n ≡ true → (k : ℕ) × (k < suc n) × (getD s (i + k) 0 ≡ m)
-  among-some zero h = (0, omega arith, rw add-zero (eqb-true (getD s i 0) m h))
-  among-some (suc n) h =
-      ⊎-elim (λ x. let (k, l, e) = among-some n x in (k, omega arith, e)) (λ x. (suc n, omega arith, eqb-true _ m x)) (either-true (among s m i n) _ h)
+  pub first-near : (t ≡ 0 → ⊥) → t < 2 ^ 64 → i + 8 ≤ length s → FirstAt s m from (i + trailingZeros 64 t / 8)
+  first-near ne l h =
+      let lz : trailingZeros 64 t < 64 = zeros-some 64 t ne l in
+      let q = passed-more (trailingZeros 64 t / 8) p (f .clear) in
+      record { high = omega arith; clear = q .none; here = λ b. (q .low, f .here (omega arith)) }

@@ -1,5 +1,6 @@
 pub mod Parts
 pub mod Found
+pub mod Words
 pub mod Cuts
 pub mod Same
 pub mod Runs

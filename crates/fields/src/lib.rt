@@ -1,11 +1,12 @@
 // Bytes of a line: where a mark stands, a part, the same bytes, the run of a name. Every public function
 // takes whole slices and asks nothing of its caller; none writes. What a field says is told in `values`,
 // and how a line is cut in `cutting`.
-ghost use mathlib.Core.Bool.{true, false};
 ghost use mathlib.Core.Path.{_≡_};
-ghost use Prim.Native.Nat.{ℕ, _+_, _-_, _≤_, _<_};
+ghost use Prim.Native.Nat.{_+_, _/_, _≤_, _<_};
+ghost use lib.Count.{trailingZeros};
 ghost use lib.ListN.{getD};
 ghost use Rattle.fields.specs.Bytes.{pieceOf, sameBytes, isLetter, isNameByte, FirstAt, RunEnd};
+ghost use Rattle.fields.specs.Words.{FirstOf, Digits};
 
 // A number that was read, or that the bytes are none.
 pub enum Number {
@@ -25,7 +26,7 @@ pub enum FourFields {
     NotFour,
 }
 
-// The first place from `from` on at which s has the byte m, or the end of s. Eight bytes by one test.
+// The first place from `from` on at which s has the byte m, or the end of s. Eight bytes at a time.
 pub fn find(s: &[u8], m: u8, from: usize) -> usize
     ensures { λ r. ⌜ FirstAt (now (s .entry)) m from r ⌝ }
 {
@@ -34,8 +35,9 @@ pub fn find(s: &[u8], m: u8, from: usize) -> usize
         if s.len() - i < 8 {
             return find_near(s, m, i);
         }
-        if in_eight(s, m, i) {
-            return find_near(s, m, i);
+        let marks = marks_of_eight(s, m, i);
+        if marks != 0 {
+            return i + u64::trailing_zeros(marks) as usize / 8;
         }
         i += 8;
     }
@@ -56,20 +58,42 @@ fn find_near(s: &[u8], m: u8, from: usize) -> usize
     s.len()
 }
 
-// Whether one of the eight bytes from i on is m.
-fn in_eight(s: &[u8], m: u8, i: usize) -> bool
+const ONES: u64 = 0x0101_0101_0101_0101;
+
+const ALL_BITS: u64 = 0xffff_ffff_ffff_ffff;
+
+const HIGH_BITS: u64 = 0x8080_8080_8080_8080;
+
+// 0 where none of the eight bytes from i on is m; else a number whose lowest bit is the high bit of the first
+// that is. A byte of `differs` is 0 where s has m. Below the first such byte nothing is borrowed, and a byte
+// that is not 0 leaves no high bit; what stands above says nothing.
+fn marks_of_eight(s: &[u8], m: u8, i: usize) -> u64
     requires { do ⌜ i + 8 ≤ (← ⟦s.len()⟧) ⌝ }
-    ensures none { λ r. ⌜ (r ≡ false → (k : ℕ) → k < 8 → getD (now (s .entry)) (i + k) 0 ≡ m → ⊥) ⌝ }
-    ensures some { λ r. ⌜ (r ≡ true → (k : ℕ) × (k < 8) × (getD (now (s .entry)) (i + k) 0 ≡ m)) ⌝ }
+    ensures { λ r. ⌜ FirstOf (λ k. getD (now (s .entry)) (i + k) 0) m 8 (trailingZeros 64 r / 8) ⌝ }
 {
-    (s[i] == m)
-        | (s[i + 1] == m)
-        | (s[i + 2] == m)
-        | (s[i + 3] == m)
-        | (s[i + 4] == m)
-        | (s[i + 5] == m)
-        | (s[i + 6] == m)
-        | (s[i + 7] == m)
+    let differs = eight(s, i) ^ (wide(m) * ONES);
+    std::num::wrapping_sub_u64(differs, ONES) & (differs ^ ALL_BITS) & HIGH_BITS
+}
+
+// The eight bytes from i on as one number, the first lowest.
+fn eight(s: &[u8], i: usize) -> u64
+    requires { do ⌜ i + 8 ≤ (← ⟦s.len()⟧) ⌝ }
+    ensures { λ r. ⌜ Digits (λ k. getD (now (s .entry)) (i + k) 0) r ⌝ }
+{
+    wide(s[i])
+        + wide(s[i + 1]) * 0x100
+        + wide(s[i + 2]) * 0x1_0000
+        + wide(s[i + 3]) * 0x100_0000
+        + wide(s[i + 4]) * 0x1_0000_0000
+        + wide(s[i + 5]) * 0x100_0000_0000
+        + wide(s[i + 6]) * 0x1_0000_0000_0000
+        + wide(s[i + 7]) * 0x100_0000_0000_0000
+}
+
+fn wide(b: u8) -> u64
+    ensures { λ r. ⌜ (r ≡ b) × (r < 256) ⌝ }
+{
+    b as u64
 }
 
 // The bytes from place a up to place e, or none where s has no such part.

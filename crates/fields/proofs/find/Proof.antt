@@ -2,7 +2,7 @@
 use Prim.Native.Nat.{_-_}
 use native.Mathlib.Omega.{arith}
 use lib.ListN.{length}
-use Rattle.fields.proofs.Found.{Passed, passed-none, passed-eight, first-later, first-none}
+use Rattle.fields.proofs.Found.{Passed, passed-none, passed-eight, first-later, first-near, first-none}
 use borrow.Author.Needs.{needs}
 use Rattle.fields.proofs.find.Statement.{statement}
 use Rattle.fields.proofs.find.Tie as tie
@@ -20,10 +20,10 @@ returns : tie.Need-returns Inv-loop μ-loop
 returns c = first-later (c .before .before .before .loop .inv) (c .find-near .ensures)
 
 returns-2 : tie.Need-returns-2 Inv-loop μ-loop
-returns-2 c = first-later (c .before .before .before .before .before .loop .inv) (c .find-near2 .ensures)
+returns-2 c = first-near _ (c .before .before .before .before .loop .inv) (c .before .marks-of-eight .ensures) (c .if2 .taken) (search needs) (omega arith)
 
 loop-again : tie.Need-loop-again Inv-loop μ-loop
-loop-again c = passed-eight (c .before .before .before .before .loop .inv) (c .before .in-eight .ensures .0 (c .if2 .left))
+loop-again c = passed-eight _ (c .before .before .before .before .loop .inv) (c .before .marks-of-eight .ensures) (c .if2 .left)
 
 returns-3 : tie.Need-returns-3 Inv-loop μ-loop
 returns-3 c = first-none (c .before .loop .inv) (c .loop-test .left)
@@ -39,7 +39,8 @@ find-spec =
     (λ c κs. search needs)
     returns
     (λ c κs. search needs)
-    (λ c κs. search needs)
+    (λ c. search needs)
+    (λ c. search needs)
     returns-2
     (λ c. search needs)
     (λ c. search needs)
