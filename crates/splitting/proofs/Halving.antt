@@ -20,7 +20,7 @@ use Rattle.splitting.proofs.Marks.{two-pow, even-stride, odd-stride, ma
 abbrev pub allowed : List ℕ → ℕ → ℕ → ℕ → Bool
 allowed s i c q = inSet s (c + q * 2 ^ i)
 
-module _ {s t : List ℕ} {n : ℕ} (small : n ≤ 10) (within : Within n s) (table : Tells s t) where
+module _ {s t : List ℕ} {n : ℕ} (small : n ≤ 10) (within : Within n s) (table : Tells n s t) where
   module _ {i c : ℕ} (left : i < n) (lc : c < 2 ^ i) where
     abbrev f : ℕ → Bool
     f = allowed s i c
@@ -91,7 +91,7 @@ module _ {s t : List ℕ} {n : ℕ} (small : n ≤ 10) (within : Within n s) (ta
     decided b = cond b (guardOf (suc i) k (without f)) (choice (feature i) (guardOf (suc i) k (with f)) (guardOf (suc i) k (without f)))
 
     told : eqb (has t (2 ^ i + c)) 0 ≡ free f k
-    told = table .tells i c (omega arith) lc ∙ free-few
+    told = table .tells i c left lc ∙ free-few
 
     -- "splits on the first feature on which the set depends"
     pub split-guard : inSet t (2 ^ i + c) ≡ true → guardOf i (n - i) f ≡ choice (feature i) (later-guard (c + 2 ^ i)) (later-guard c)

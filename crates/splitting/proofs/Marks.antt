@@ -18,8 +18,8 @@ use lib.Seq.{getD-set-same, getD-set-other}
 use Rattle.products.specs.Sets.{bit, has}
 use Rattle.products.proofs.Bits.{bit-or, bit-xor, zero-bit}
 use Rattle.products.proofs.Laws.{has-at}
-use Rattle.splitting.specs.Splitting.{inSet, alike, all, freeOf, Tells, Word, Level, First}
-use Rattle.splitting.proofs.Laws.{bool-ext, alike-eq, eq-alike, all-at, all-ext}
+use Rattle.splitting.specs.Splitting.{inSet, alike, all, freeOf, Within, Tells, Word, Level, First}
+use Rattle.splitting.proofs.Laws.{bool-ext, alike-eq, eq-alike, all-at, all-true, all-ext}
 
 -- ---- numbers
 
@@ -190,7 +190,7 @@ word-of : (s : List ℕ) (j c : ℕ) {x : ℕ} → c < 2 ^ j → ((k : ℕ) → 
 word-of s j c lc h =
     let a : 2 ^ (6 + j) ≡ 64 * 2 ^ j = pow-add 2 6 j in
     record {
-      tells = λ i d k li ld lk e.
+      tells = λ i d k ld lk e.
           let f : i ≡ 6 + j = power-one i (6 + j) d (c * 64 + k) ld (omega arith) (omega arith) in
           let g : d ≡ c * 64 + k = omega (arith, ap (λ (n : ℕ). 2 ^ n) f) in
           rw (f, g) (h k lk .is ∙ sym (free-strides s (6 + j) (c * 64 + k)));
@@ -245,36 +245,57 @@ pub across-none : (s : List ℕ) (i : ℕ) → Across s i 0 0
 unfolding all
 across-none s i = record { most = omega arith; bits = λ k. eq-eqb (bit 0 k) 0 (zero-bit k) }
 
+-- what the word of differences of word w says
+near-bit : (s : List ℕ) (i w k : ℕ) → i < 6 → clear (bitXor (getD s w 0) (getD s w 0 / 2 ^ step i)) k ≡ near s i k w
+near-bit s i w k li =
+    clear-xor (getD s w 0) (getD s w 0 / 2 ^ step i) k
+    ∙ ap (λ (n : ℕ). eqb (bit (getD s w 0) k) n)
+    (ap (λ (n : ℕ). bit (getD s w 0 / 2 ^ n) k) (step-is i (omega arith)) ∙ shr-bit (getD s w 0) (2 ^ i) k)
+
 pub across-more : {s : List ℕ} {i r w : ℕ} → Across s i r w → i < 6 → w < 16
     → Across s i (bitOr r (bitXor (getD s w 0) (getD s w 0 / 2 ^ step i))) (w + 1)
 unfolding all
 across-more {s} {i} {r} {w} h li lw = record {
   most = omega arith;
-  bits = λ k. rw add-one (
-      clear-or r (bitXor (getD s w 0) (getD s w 0 / 2 ^ step i)) k
-      ∙ ap₂ _&&_ (h .bits k)
-      (clear-xor (getD s w 0) (getD s w 0 / 2 ^ step i) k
-      ∙ ap (λ (n : ℕ). eqb (bit (getD s w 0) k) n)
-      (ap (λ (n : ℕ). bit (getD s w 0 / 2 ^ n) k) (step-is i (omega arith)) ∙ shr-bit (getD s w 0) (2 ^ i) k)));
+  bits = λ k. rw add-one (clear-or r (bitXor (getD s w 0) (getD s w 0 / 2 ^ step i)) k ∙ ap₂ _&&_ (h .bits k) (near-bit s i w k li));
 }
 
-pub across-all : {s : List ℕ} {i r w : ℕ} → Across s i r w → 16 ≤ w → (k : ℕ) → clear r k ≡ all (near s i k) 16
-across-all {s} {i} {r} {w} h le k = let e : w ≡ 16 = omega (arith, h .most) in rw e at (h .bits k)
+-- r tells of all sixteen words
+pub across-all : {s : List ℕ} {i r w : ℕ} → Across s i r w → 16 ≤ w → (k : ℕ) → 2 ^ i + k < 64 → clear r k ≡ all (near s i k) 16
+across-all {s} {i} {r} {w} h le k l = let e : w ≡ 16 = omega (arith, h .most) in rw e at (h .bits k)
+
+-- the products of six features are all in word 0: the bits of the other words are 0
+bit-past : {n : ℕ} {s : List ℕ} → Within n s → n ≤ 6 → (w k : ℕ) → 0 < w → w < 16 → k < 64 → bit (getD s w 0) k ≡ 0
+bit-past {n} {s} h ln w k le lw lk =
+    sym (has-at s w k lk) ∙ h .few (w * 64 + k) (omega arith) (omega (arith, pow-mono {i = n} {j = 6} ln))
+
+-- so the first word tells of all
+pub across-first : {n i : ℕ} {s : List ℕ} → Within n s → n ≤ 6 → i < 6 → (k : ℕ) → 2 ^ i + k < 64
+    → clear (bitXor (getD s 0 0) (getD s 0 0 / 2 ^ step i)) k ≡ all (near s i k) 16
+across-first {n} {i} {s} h ln li k lk =
+    near-bit s i 0 k li
+    ∙ bool-ext (near s i k 0) (all (near s i k) 16) (λ e. all-true (near s i k) 16 (go e)) (λ e. all-at (near s i k) 16 e 0 (omega arith))
+  where
+    go : near s i k 0 ≡ true → (w : ℕ) → w < 16 → near s i k w ≡ true
+    go e zero l = e
+    go e (suc w) l =
+        eq-eqb (bit (getD s (suc w) 0) k) (bit (getD s (suc w) 0) (2 ^ i + k))
+        (bit-past h ln (suc w) k (omega arith) l (omega arith) ∙ sym (bit-past h ln (suc w) (2 ^ i + k) (omega arith) l lk))
 
 abbrev nearAt : List ℕ → ℕ → ℕ → Bool
 nearAt s i p = near s i (p % 64) (p / 64)
 
--- bit k of r, below 2 ^ (j + 1): whatever the features behind j are
+-- bit k of r, where 2 ^ i + k is below 2 ^ (j + 1) too: whatever the features behind j are
 pub record Brought (s : List ℕ) (i r j : ℕ) : Type 0 where
   pub least : i ≤ j
   pub most : j ≤ 5
-  pub bits : (k : ℕ) → k < 2 ^ suc j → clear r k ≡ all (λ q. nearAt s i (k + q * 2 ^ suc j)) (2 ^ (9 - j))
+  pub bits : (k : ℕ) → 2 ^ i + k < 2 ^ suc j → clear r k ≡ all (λ q. nearAt s i (k + q * 2 ^ suc j)) (2 ^ (9 - j))
 
-pub brought-first : {s : List ℕ} {i r : ℕ} → ((k : ℕ) → clear r k ≡ all (near s i k) 16) → i < 6 → Brought s i r 5
+pub brought-first : {s : List ℕ} {i r : ℕ} → ((k : ℕ) → 2 ^ i + k < 64 → clear r k ≡ all (near s i k) 16) → i < 6 → Brought s i r 5
 brought-first {s} {i} {r} h li = record {
   least = omega arith;
   most = omega arith;
-  bits = λ k lk. h k ∙ all-ext (near s i k) (λ q. nearAt s i (k + q * 64)) 16 (λ q l.
+  bits = λ k lk. h k lk ∙ all-ext (near s i k) (λ q. nearAt s i (k + q * 64)) 16 (λ q l.
       let a : k ≡ (k + q * 64) % 64 = omega arith in
       let b : q ≡ (k + q * 64) / 64 = omega arith in
       ap₂ (λ (x y : ℕ). near s i x y) a b);
@@ -406,7 +427,7 @@ unfolding packed
 told-first {s} {a} {b} {c} {d} {e} {f} la lb lc ld le lf =
     let y : ℕ → ℕ = λ i. getD (a ∷ b ∷ c ∷ d ∷ e ∷ f ∷ []) i 0 in
     record {
-      tells = λ i n k li ln lk eq.
+      tells = λ i n k ln lk eq.
           let h : i < 6 = power-below i (omega (arith, eq)) in
           let g : k ≡ 2 ^ i + n = omega (arith, eq) in
           rw g (ap (λ (x : ℕ). eqb x 0) (packed-bit y 5 i n (omega arith) ln) ∙ six (λ i. Level s i (y i)) la lb lc ld le lf i h .tells n ln);
@@ -441,13 +462,14 @@ pub made-first : {s : List ℕ} {x : ℕ} → Word s 0 x → Made s (set (replic
 made-first {s} h =
     made-more {t = replicate 16 0} (record { most = omega arith; long = refl; words = below-none (λ v. Word s v (getD (replicate 16 0) v 0)) }) (omega arith) h
 
-pub made-all : {s t : List ℕ} {w : ℕ} → Made s t w → 16 ≤ w → Tells s t
+-- all words in which the first n features have bits
+pub made-all : {s t : List ℕ} {w : ℕ} (n : ℕ) → Made s t w → 2 ^ n ≤ w * 64 → Tells n s t
 unfolding has
-made-all {s} {t} {w} h le = record {
+made-all {s} {t} {w} n h le = record {
   tells = λ i c li lc.
-      let b : 2 ^ i + c < 1024 = omega (arith, two-pow i, pow-mono {i = suc i} {j = 10} (omega arith)) in
+      let b : 2 ^ i + c < w * 64 = omega (arith, two-pow i, pow-mono {i = suc i} {j = n} (omega arith)) in
       let p = 2 ^ i + c in
-      h .words (p / 64) (omega arith) .tells i c (p % 64) li lc (omega arith) (omega arith);
+      h .words (p / 64) (omega arith) .tells i c (p % 64) lc (omega arith) (omega arith);
 }
 
 -- ---- the first feature that the table marks

@@ -81,7 +81,7 @@ leaf-text false names = refl
 -- no feature is left on which the set depends
 pub laid-leaf : {l l′ : List ℕ} {at r n i j c : ℕ} {b : Bool} {set t : List ℕ} (names : List (List ℕ))
     → Wrote l at (leafText b) l′ r → b ≡ inSet set c → First t n i c j
-    → n ≤ 10 → i ≤ j → j ≤ n → n ≤ j → c < 2 ^ i → Within n set → Tells set t → Wrote l at (guardText n i c set names) l′ r
+    → n ≤ 10 → i ≤ j → j ≤ n → n ≤ j → c < 2 ^ i → Within n set → Tells n set t → Wrote l at (guardText n i c set names) l′ r
 unfolding guardOf
 laid-leaf {n = n} {i} {j} {c} {b} {set} {t} names w told first small le lj none lc within table =
     let z : n - j ≡ 0 = omega arith in
@@ -106,9 +106,9 @@ choice-text text rows n i g k left =
 -- the set is split on feature j: `(`, the feature's name, `?`, one half, `:`, the other, `)`
 pub laid-split : {l₀ l₁ l₂ l₃ l₄ l₅ l₆ l₇ piece : List ℕ} {at a b e d g f r n i j c : ℕ} {set t : List ℕ} (text : List ℕ) (rows : List (List ℕ))
     → Wrote l₀ at (40 ∷ []) l₁ a → piece ≡ rowName text rows j → Wrote l₁ a piece l₂ b → Wrote l₂ b (63 ∷ []) l₃ e
-    → (Within n set → Tells set t → Wrote l₃ e (guardText n (j + 1) (c + step j) set (namesOf text rows n)) l₄ d) → Wrote l₄ d (58 ∷ []) l₅ g
-    → (Within n set → Tells set t → Wrote l₅ g (guardText n (j + 1) c set (namesOf text rows n)) l₆ f) → Wrote l₆ f (41 ∷ []) l₇ r
-    → First t n i c j → n ≤ 10 → i ≤ j → j < n → c < 2 ^ i → Within n set → Tells set t
+    → (Within n set → Tells n set t → Wrote l₃ e (guardText n (j + 1) (c + step j) set (namesOf text rows n)) l₄ d) → Wrote l₄ d (58 ∷ []) l₅ g
+    → (Within n set → Tells n set t → Wrote l₅ g (guardText n (j + 1) c set (namesOf text rows n)) l₆ f) → Wrote l₆ f (41 ∷ []) l₇ r
+    → First t n i c j → n ≤ 10 → i ≤ j → j < n → c < 2 ^ i → Within n set → Tells n set t
     → Wrote l₀ at (guardText n i c set (namesOf text rows n)) l₇ r
 laid-split {piece = piece} {n = n} {i} {j} {c} {set} {t} text rows w1 named w2 w3 w4 w5 w6 w7 first small le left lc within table =
     let names = namesOf text rows n in
@@ -133,7 +133,7 @@ pub leaf-below : (i n c : ℕ) → c < 2 ^ i → i ≤ n → n ≤ 10 → c < 10
 leaf-below i n c lc le ln = omega (arith, pow-mono {i = i} {j = 10} (omega arith))
 
 -- the first n features' products of the set
-whole-within : (n : ℕ) (set every cut : List ℕ) → ((p : ℕ) → p < 1024 → has cut p ≡ min (has set p) (has every p))
+pub whole-within : (n : ℕ) (set every cut : List ℕ) → ((p : ℕ) → p < 1024 → has cut p ≡ min (has set p) (has every p))
     → ((p : ℕ) → p < 1024 → has every p ≡ oneIf (ltb p (2 ^ n))) → Within n cut
 whole-within n set every cut both all =
     record { few = λ p l le. omega (arith, both p l, all p l, ap (λ (b : Bool). oneIf b) (le-ltb p (2 ^ n) le)) }
@@ -148,9 +148,9 @@ whole-in n set every cut both all small q l =
 
 -- the guard of the first features' products
 pub laid-whole : {l l′ : List ℕ} {at r : ℕ} (text : List ℕ) (rows : List (List ℕ)) (count n : ℕ) (set every cut table : List ℕ)
-    → (Within n cut → Tells cut table → Wrote l at (guardText n 0 0 cut (namesOf text rows n)) l′ r) → n ≡ min count 10
+    → (Within n cut → Tells n cut table → Wrote l at (guardText n 0 0 cut (namesOf text rows n)) l′ r) → n ≡ min count 10
     → ((p : ℕ) → p < 1024 → has cut p ≡ min (has set p) (has every p)) → ((p : ℕ) → p < 1024 → has every p ≡ oneIf (ltb p (2 ^ n)))
-    → Tells cut table → Wrote l at (print (guardOf 0 (min count 10) (inSet set)) (namesOf text rows (min count 10)) []) l′ r
+    → Tells n cut table → Wrote l at (print (guardOf 0 (min count 10) (inSet set)) (namesOf text rows (min count 10)) []) l′ r
 laid-whole {l} {l′} {at} {r} text rows count n set every cut table w e both all tells =
     let small : n ≤ 10 = omega arith in
     let none : n - 0 ≡ n = omega arith in

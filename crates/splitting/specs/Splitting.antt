@@ -54,13 +54,14 @@ pub record Within (n : ℕ) (set : List ℕ) : Type 0 where
 abbrev pub freeOf : List ℕ → ℕ → ℕ → Bool
 freeOf set i c = free (λ q. inSet set (c + q * 2 ^ i)) (9 - i)
 
--- the table t tells on which features the set depends: bit 2 ^ i + c is 0 exactly if, by the number c of the earlier ones, it does not depend on feature i
-pub record Tells (set t : List ℕ) : Type 0 where
-  pub tells : (i c : ℕ) → i < 10 → c < 2 ^ i → eqb (has t (2 ^ i + c)) 0 ≡ freeOf set i c
+-- the table t tells on which of the first n features the set depends: bit 2 ^ i + c is 0 exactly if, by the number c of the earlier ones, it does not
+-- depend on feature i
+pub record Tells (n : ℕ) (set t : List ℕ) : Type 0 where
+  pub tells : (i c : ℕ) → i < n → c < 2 ^ i → eqb (has t (2 ^ i + c)) 0 ≡ freeOf set i c
 
 -- x is word w of such a table
 pub record Word (set : List ℕ) (w x : ℕ) : Type 0 where
-  pub tells : (i c k : ℕ) → i < 10 → c < 2 ^ i → k < 64 → 2 ^ i + c ≡ w * 64 + k → eqb (bit x k) 0 ≡ freeOf set i c
+  pub tells : (i c k : ℕ) → c < 2 ^ i → k < 64 → 2 ^ i + c ≡ w * 64 + k → eqb (bit x k) 0 ≡ freeOf set i c
 
 -- the first bits of x are what such a table has for feature i
 pub record Level (set : List ℕ) (i x : ℕ) : Type 0 where

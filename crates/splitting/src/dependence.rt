@@ -4,15 +4,19 @@ ghost use Prim.Native.Nat.{ℕ, _+_, _^_, _<_, _≤_};
 ghost use lib.Dec.{eqb};
 ghost use lib.ListN.{getD};
 ghost use Rattle.products.specs.Sets.{bit};
-ghost use Rattle.splitting.specs.Splitting.{inSet, all, Tells, Word, Level, First};
+ghost use Rattle.splitting.specs.Splitting.{inSet, all, Within, Tells, Word, Level, First};
 
-// Bit 2 ^ i + c of the table is 1 exactly if the set depends on feature i among the products whose
-// first i features make the number c.
-pub(crate) fn table(set: &[u64; 16]) -> [u64; 16]
-    ensures { λ r. ⌜ Tells (now (set .entry)) r ⌝ }
+// Bit 2 ^ i + c of the table, for i below n, is 1 exactly if the set depends on feature i among the
+// products whose first i features make the number c. Six features have all their bits in word 0.
+pub(crate) fn table(set: &[u64; 16], n: usize) -> [u64; 16]
+    requires { ⌜ (n ≤ 10) × Within n (now set) ⌝ }
+    ensures { λ r. ⌜ Tells n (now (set .entry)) r ⌝ }
 {
     let mut t = [0u64; 16];
-    t[0] = first_word(set);
+    t[0] = first_word(set, n);
+    if n <= 6 {
+        return t;
+    }
     let mut w = 1;
     while w < 16 {
         t[w] = later_word(set, w);
@@ -45,23 +49,24 @@ pub(crate) fn marked(words: &[u64; 16], p: usize) -> bool
 }
 
 // Word 0 of the table: features 0 to 5, the bits of each behind those of the one before.
-fn first_word(set: &[u64; 16]) -> u64
+fn first_word(set: &[u64; 16], n: usize) -> u64
+    requires { ⌜ Within n (now set) ⌝ }
     ensures { λ r. ⌜ Word (now (set .entry)) 0 r ⌝ }
 {
-    let a = low_level(set, 0) % 2 * 2;
-    let b = a + low_level(set, 1) % 4 * 4;
-    let c = b + low_level(set, 2) % 16 * 16;
-    let d = c + low_level(set, 3) % 256 * 256;
-    let e = d + low_level(set, 4) % 65536 * 65536;
-    e + low_level(set, 5) % 4294967296 * 4294967296
+    let a = low_level(set, n, 0) % 2 * 2;
+    let b = a + low_level(set, n, 1) % 4 * 4;
+    let c = b + low_level(set, n, 2) % 16 * 16;
+    let d = c + low_level(set, n, 3) % 256 * 256;
+    let e = d + low_level(set, n, 4) % 65536 * 65536;
+    e + low_level(set, n, 5) % 4294967296 * 4294967296
 }
 
 // Feature i below 6: whatever the later features are, brought together on the first bits.
-fn low_level(set: &[u64; 16], i: usize) -> u64
-    requires { ⌜ i < 6 ⌝ }
+fn low_level(set: &[u64; 16], n: usize, i: usize) -> u64
+    requires { ⌜ (i < 6) × Within n (now set) ⌝ }
     ensures { λ r. ⌜ Level (now (set .entry)) i r ⌝ }
 {
-    let mut r = across(set, i);
+    let mut r = across(set, n, i);
     let mut j = 5;
     while i < j {
         r = r | (r >> (1u64 << j));
@@ -70,12 +75,15 @@ fn low_level(set: &[u64; 16], i: usize) -> u64
     r
 }
 
-// Bit k: in some word bits k and k + 2 ^ i differ.
-fn across(set: &[u64; 16], i: usize) -> u64
-    requires { ⌜ i < 6 ⌝ }
-    ensures { λ r. ⌜ ((k : ℕ) → eqb (bit r k) 0 ≡ all (λ w. eqb (bit (getD (now (set .entry)) w 0) k) (bit (getD (now (set .entry)) w 0) (2 ^ i + k))) 16) ⌝ }
+// Bit k: in some word bits k and k + 2 ^ i differ. The products of six features are all in word 0.
+fn across(set: &[u64; 16], n: usize, i: usize) -> u64
+    requires { ⌜ (i < 6) × Within n (now set) ⌝ }
+    ensures { λ r. ⌜ ((k : ℕ) → 2 ^ i + k < 64 → eqb (bit r k) 0 ≡ all (λ w. eqb (bit (getD (now (set .entry)) w 0) k) (bit (getD (now (set .entry)) w 0) (2 ^ i + k))) 16) ⌝ }
 {
     let step = 1u64 << i;
+    if n <= 6 {
+        return set[0] ^ (set[0] >> step);
+    }
     let mut r = 0u64;
     let mut w = 0;
     while w < 16 {

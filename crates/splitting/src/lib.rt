@@ -23,7 +23,7 @@ pub fn put_guard(
 {
     let n = counts::at_most(count, 10);
     let few = products::both(set, products::all(n));
-    let table = dependence::table(&few);
+    let table = dependence::table(&few, n);
     put_set(room, at, text, names, n, 0, 0, &few, &table)
 }
 
@@ -41,7 +41,7 @@ fn put_set(
     table: &[u64; 16],
 ) -> usize
     requires { ⌜ (n ≤ 10) × (i ≤ n) × (chosen < 2 ^ i) ⌝ }
-    ensures { λ r. ⌜ (Within n (now (set .entry)) → Tells (now (set .entry)) (now (table .entry)) → Wrote (now (room .entry)) at (print (guardOf i (n - i) (λ q. inSet (now (set .entry)) (chosen + q * 2 ^ i))) (namesOf (now (text .entry)) (now (names .entry)) n) List.[]) (now (room .exit)) r) ⌝ }
+    ensures { λ r. ⌜ (Within n (now (set .entry)) → Tells n (now (set .entry)) (now (table .entry)) → Wrote (now (room .entry)) at (print (guardOf i (n - i) (λ q. inSet (now (set .entry)) (chosen + q * 2 ^ i))) (namesOf (now (text .entry)) (now (names .entry)) n) List.[]) (now (room .exit)) r) ⌝ }
 {
     let j = dependence::first(table, n, i, chosen);
     if n <= j {

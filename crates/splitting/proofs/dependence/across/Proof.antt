@@ -1,27 +1,34 @@
--- `across` meets its contract. The loop's invariant: the words so far. Assumes nothing.
+-- `across` meets its contract. The loop's invariant: the words so far. Of six features the first word is enough. Assumes nothing.
 use Prim.Native.Nat.{_-_}
-use Rattle.splitting.proofs.Marks.{step-small, Across, across-none, across-more, across-all}
+use native.Mathlib.Omega.{arith}
+use Rattle.splitting.proofs.Marks.{step-small, Across, across-none, across-more, across-all, across-first}
 use borrow.Author.Needs.{needs}
 use Rattle.splitting.proofs.dependence.across.Statement.{statement}
 use Rattle.splitting.proofs.dependence.across.Tie as tie
 
 abbrev Inv-loop : tie.InvT-loop
-Inv-loop set i step r₀ w₀ r w = Across set i r w
+Inv-loop set n i step r₀ w₀ r w = Across set i r w
 
 abbrev μ-loop : tie.MeasureT-loop
-μ-loop set i step r₀ w₀ r w = 16 - w
+μ-loop set n i step r₀ w₀ r w = 16 - w
+
+shr-result : tie.Need-shr-result Inv-loop μ-loop
+shr-result c = step-small _ (c .before .before .before .pre .0)
+
+returns : tie.Need-returns Inv-loop μ-loop
+returns c = across-first (c .before .before .before .pre .1) (omega arith) (c .before .before .before .pre .0)
 
 loop-holds : tie.Need-loop-holds Inv-loop μ-loop
 loop-holds c = across-none _ _
 
 shr-r : tie.Need-shr-r Inv-loop μ-loop
-shr-r c = step-small _ (c .before .before .before .before .pre)
+shr-r c = step-small _ (c .before .before .before .before .before .pre .0)
 
 loop-again : tie.Need-loop-again Inv-loop μ-loop
-loop-again c = across-more (c .before .before .before .loop .inv) (c .before .before .before .before .pre) (c .before .before .loop-test .taken)
+loop-again c = across-more (c .before .before .before .loop .inv) (c .before .before .before .before .before .pre .0) (c .before .before .loop-test .taken)
 
-returns : tie.Need-returns Inv-loop μ-loop
-returns c = across-all (c .before .loop .inv) (c .loop-test .left)
+returns-2 : tie.Need-returns-2 Inv-loop μ-loop
+returns-2 c = across-all (c .before .loop .inv) (c .loop-test .left)
 
 pub across-spec : {M : Type 1} → statement M
 across-spec =
@@ -30,6 +37,10 @@ across-spec =
     Inv-loop
     μ-loop
     (λ c. search needs)
+    (λ c. search needs)
+    (λ c. search needs)
+    shr-result
+    returns
     loop-holds
     (λ c. search needs)
     (λ c. search needs)
@@ -39,4 +50,4 @@ across-spec =
     (λ c. search needs)
     (λ c. search needs)
     loop-again
-    returns)
+    returns-2)
