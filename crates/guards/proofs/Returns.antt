@@ -10,11 +10,11 @@ use lib.Seq.{drop-length}
 use Rattle.products.specs.declared.Found.{Found}
 use Rattle.products.specs.declared.Found.the-variants.{At, Nothing}
 use Rattle.fields.specs.Bytes.{part, isLetter, run, RunEnd}
-use Rattle.fields.proofs.Parts.{headed, part-none}
+use Rattle.fields.proofs.Parts.{headed, part-none, part-rest}
 use Rattle.guards.specs.declared.GuardRead.{GuardRead}
 use Rattle.guards.specs.declared.GuardRead.the-variants.{Upto, Refused}
 use Rattle.guards.specs.Guard.{Operator, Guard, never, always, feature, neg, chain, choice, Parts, one, more, byteOf, Means, PartsMean}
-use Rattle.guards.specs.Reading.{Outcome, took, faulty, Kind, nameKind, noKind, kind, number, known, named, afterPart, parts, closed, otherwise, afterFirst, negated, byKind, readGuard, alone, readWhole, Follows, Reads}
+use Rattle.guards.specs.Reading.{Outcome, took, faulty, Kind, nameKind, noKind, kind, number, known, named, afterPart, parts, closed, otherwise, afterFirst, negated, byKind, readGuard, alone, readWhole, namesOf, Follows, Reads}
 use Rattle.guards.proofs.Meanings.{parts-mean-chain, mean-one}
 use Rattle.guards.proofs.Steps.{level, at-nothing, at-byte, denied-deep, opened-deep, denied-less, opened-less, kind-name, kind-none, first-choice, first-chain, first-fault, colon, colon-fault, closing, closing-fault, parts-step, part-last, part-more, part-fault}
 
@@ -243,6 +243,17 @@ module _ (s : List ℕ) (n : List (List ℕ)) (left at : ℕ) (r : GuardRead) (s
         )
 
 -- ---- read_guard and read_plain
+
+-- a slice taken anew is the slice
+whole : (s : List ℕ) → take (length s - 0) s ≡ s
+unfolding part
+whole s = part-rest s 0
+
+-- so what is shown of the text and the field taken anew is shown of them as they came
+pub anew : (text : List ℕ) (names : List (List ℕ)) (k : ℕ) (field : List ℕ) (left at : ℕ) (q : GuardRead) (to : List ℕ)
+    → Follows (take (length field - 0) field) at q to (readGuard (namesOf (take (length text - 0) text) names k) left (drop at (take (length field - 0) field)))
+    → Follows field at q to (readGuard (namesOf text names k) left (drop at field))
+anew text names k field left at q to w = simp whole at w
 
 pub guard-end : (s : List ℕ) (n : List (List ℕ)) (left at : ℕ) (q : GuardRead) (to : List ℕ) → at ≡ length s → q ≡ Refused 5 at → Follows s at q to (readGuard n left (drop at s))
 guard-end s n left at q to e z =

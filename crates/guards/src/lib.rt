@@ -94,6 +94,9 @@ fn read_guard(
     requires { ⌜ at ≤ length (now field) ⌝ }
     ensures { λ r. ⌜ Follows (now (field .entry)) at r (now (set .exit)) (readGuard (namesOf (now (text .entry)) (now (names .entry)) (min count 10)) left (drop at (now (field .entry)))) ⌝ }
 {
+    // Slices taken anew are handed on as two words each; a copy of the whole would wait for memory.
+    let text = &text[0..text.len()];
+    let field = &field[0..field.len()];
     if at == field.len() {
         return refuse(5, at);
     }

@@ -1,5 +1,5 @@
 -- The four readers meet their contracts. Measure: twice the bytes left, and one more where the next call may be at the same place. The chain's
--- loop keeps `Chained`. Each return is one law of Returns. Assumes nothing.
+-- loop keeps `Chained`. Each return is one law of Returns, in `read_guard` of the slices taken anew (`anew`). Assumes nothing.
 use borrow.Author.Needs.{needs}
 use mathlib.Core.Path.{refl}
 use Prim.Native.Nat.{ℕ, _+_, _-_, _*_, _<_, min}
@@ -7,7 +7,7 @@ use native.Mathlib.Omega.{arith}
 use lib.ListN.{length}
 use Rattle.guards.specs.Guard.{conj, disj}
 use Rattle.guards.specs.Reading.{otherwise, afterFirst, namesOf}
-use Rattle.guards.proofs.Returns.{Chained, ahead, chain-done, chain-end, chain-fault, chain-more, chain-up, chained-none, choice-done, choice-end, choice-fault, choice-open, choice-stop, choice-up, guard-end, handed-on, not-deep, not-done, not-up, open-chain, open-choice, open-deep, open-done, open-end, open-fault}
+use Rattle.guards.proofs.Returns.{Chained, ahead, anew, chain-done, chain-end, chain-fault, chain-more, chain-up, chained-none, choice-done, choice-end, choice-fault, choice-open, choice-stop, choice-up, guard-end, handed-on, not-deep, not-done, not-up, open-chain, open-choice, open-deep, open-done, open-end, open-fault}
 use borrow.Fn.Kinds.{In}
 use borrow.Fn.PlainCycle.{Measures, is, falls, and}
 use Rattle.guards.proofs.read_chain.Reads as read-chain
@@ -186,27 +186,33 @@ read-guard-closed M t =
     )
     (read-guard-at t)
     read-guard.Post
-    (λ c κs. search needs)
-    (λ c. guard-end _ _ _ _ _ _ (c .before .if1 .taken) (c .refuse .ensures))
-    (λ c. search needs)
-    (λ c κs. search needs)
-    (λ c. not-deep _ _ _ _ (omega arith) _ _ (c .before .before .if2 .taken) (c .before .if3 .taken) (c .refuse2 .ensures))
     (λ c. search needs)
     (λ c. search needs)
-    (λ c κs. search needs)
     (λ c. search needs)
     (λ c. search needs)
-    (λ c. not-up _ _ _ _ (omega arith) _ _ (c .before .before .before .before .before .if2 .taken) (c .before .before .before .before .if3 .left) (c .enum-told2 .given .1) (c .before .before .read-guard .ensures))
-    (λ c κs. search needs)
-    (λ c. let g = c .before .before in not-done _ _ _ _ (omega arith) _ _ _ (g .before .before .before .before .before .if2 .taken) (g .before .before .before .before .if3 .left) (g .enum-told .given .1) (g .before .before .read-guard .ensures) (c .set-not .ensures))
-    (λ c κs. search needs)
-    (λ c. open-deep _ _ _ _ (omega arith) _ _ (c .before .before .if4 .taken) (c .before .if5 .taken) (c .refuse3 .ensures))
     (λ c. search needs)
     (λ c. search needs)
     (λ c κs. search needs)
-    (λ c. open-done _ _ _ _ (omega arith) (c .read-open .result) _ (c .before .before .before .if4 .taken) (c .before .before .if5 .left) (c .read-open .ensures))
+    (λ c. anew _ _ _ _ _ _ (c .refuse .result) _ (guard-end _ _ _ _ _ _ (c .before .if1 .taken) (c .refuse .ensures)))
+    (λ c. search needs)
     (λ c κs. search needs)
-    (λ c. c .read-plain .ensures _ (c .before .before .before .if2 .left) (c .before .before .if4 .left))
+    (λ c. anew _ _ _ _ _ _ (c .refuse2 .result) _ (not-deep _ _ _ _ (omega arith) _ _ (c .before .before .if2 .taken) (c .before .if3 .taken) (c .refuse2 .ensures)))
+    (λ c. search needs)
+    (λ c. search needs)
+    (λ c κs. search needs)
+    (λ c. search needs)
+    (λ c. search needs)
+    (λ c. anew _ _ _ _ _ _ (c .before .before .read-guard .result) _ (not-up _ _ _ _ (omega arith) _ _ (c .before .before .before .before .before .if2 .taken) (c .before .before .before .before .if3 .left) (c .enum-told2 .given .1) (c .before .before .read-guard .ensures)))
+    (λ c κs. search needs)
+    (λ c. let g = c .before .before in anew _ _ _ _ _ _ (g .before .before .read-guard .result) _ (not-done _ _ _ _ (omega arith) _ _ _ (g .before .before .before .before .before .if2 .taken) (g .before .before .before .before .if3 .left) (g .enum-told .given .1) (g .before .before .read-guard .ensures) (c .set-not .ensures)))
+    (λ c κs. search needs)
+    (λ c. anew _ _ _ _ _ _ (c .refuse3 .result) _ (open-deep _ _ _ _ (omega arith) _ _ (c .before .before .if4 .taken) (c .before .if5 .taken) (c .refuse3 .ensures)))
+    (λ c. search needs)
+    (λ c. search needs)
+    (λ c κs. search needs)
+    (λ c. anew _ _ _ _ _ _ (c .read-open .result) _ (open-done _ _ _ _ (omega arith) (c .read-open .result) _ (c .before .before .before .if4 .taken) (c .before .before .if5 .left) (c .read-open .ensures)))
+    (λ c κs. search needs)
+    (λ c. anew _ _ _ _ _ _ (c .read-plain .result) _ (c .read-plain .ensures _ (c .before .before .before .if2 .left) (c .before .before .if4 .left)))
 
 read-open-closed : (M : Type 1) (t : ℕ) → read-open-lts.Closed (
   read-guard-below t,
