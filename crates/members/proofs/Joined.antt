@@ -1,5 +1,5 @@
--- The words of a set joined by `|`: what is known of the words that were joined, how that grows by a word, and what it says of the set
--- where all are. Assumes nothing.
+-- Words joined by `|`: what is known of those that were joined, how that grows by a word, and what it says where all are: of the words of a set,
+-- and of the differences of two sets' words. Assumes nothing.
 use mathlib.Core.Path.{_≡_, _∙_}
 use mathlib.Core.List.{List}
 use mathlib.Core.Logic.{_⊎_, inl, inr, ⊎-elim}
@@ -7,8 +7,9 @@ use Prim.Native.Nat.{ℕ, zero, suc, _+_, _*_, _/_, _%_, _^_, _<_, _≤_}
 use native.Mathlib.Nat.{eq-or-lt-of-le}
 use native.Mathlib.Omega.{arith}
 use borrow.Author.Count.{below-more}
-use lib.Bits.{bitOr, and-le-l, and-le-r, or-add-and}
-use lib.ListN.{getD}
+use lib.Bits.{bitOr, bitXor, and-le-l, and-le-r, or-add-and, xor-add-and, xor-self}
+use lib.ListN.{length, getD}
+use lib.Seq.{ext-getD}
 use Rattle.products.specs.Sets.{bit, has, In}
 use Rattle.products.proofs.Bits.{zero-bit, eq-bits}
 use Rattle.products.proofs.Laws.{has-at, has-le}
@@ -18,27 +19,32 @@ some-or-none : (s : List ℕ) (n : ℕ) → n ≤ 1024 → ((q : ℕ) × In s q)
 some-or-none s zero le = inr (λ q lq. absurd (omega arith))
 some-or-none s (suc n) le = ⊎-elim inl (λ z. ⊎-elim (λ e. inl (n, record { small = omega arith; is = e })) (λ lt. inr (λ q lq. below-more (λ q. has s q ≡ 0) n z (omega arith) q (omega arith))) (eq-or-lt-of-le (has-le s n))) (some-or-none s n (omega arith))
 
--- all is 0 exactly where the first i words of s are
-pub record Joined (s : List ℕ) (i all : ℕ) : Type 0 where
-  pub words : all ≡ 0 → (k : ℕ) → k < i → getD s k 0 ≡ 0
-  pub whole : ((k : ℕ) → k < i → getD s k 0 ≡ 0) → all ≡ 0
+-- all is 0 exactly where the first i of the words are
+pub record Joined (word : ℕ → ℕ) (i all : ℕ) : Type 0 where
+  pub words : all ≡ 0 → (k : ℕ) → k < i → word k ≡ 0
+  pub whole : ((k : ℕ) → k < i → word k ≡ 0) → all ≡ 0
 
 -- no word
-pub joined-none : (s : List ℕ) (i all : ℕ) → i ≡ 0 → all ≡ 0 → Joined s i all
-joined-none s i all ei ea = record { words = λ e k lk. absurd (omega arith); whole = λ z. ea }
+pub joined-none : (word : ℕ → ℕ) (i all : ℕ) → i ≡ 0 → all ≡ 0 → Joined word i all
+joined-none word i all ei ea = record { words = λ e k lk. absurd (omega arith); whole = λ z. ea }
 
-module _ {s : List ℕ} {i all : ℕ} (h : Joined s i all) where
-  -- a word more
-  pub joined-word : Joined s (i + 1) (bitOr all (getD s i 0))
-  joined-word =
-      let x = getD s i 0 in
-      record {
-        words = λ e. below-more (λ k. getD s k 0 ≡ 0) i
-            (h .words (omega (arith, e, or-add-and all x, and-le-r all x)))
-            (omega (arith, e, or-add-and all x, and-le-l all x));
-        whole = λ z. omega (arith, h .whole (λ k lk. z k (omega arith)), z i (omega arith), or-add-and all x);
-      }
+-- a word more
+pub joined-word : {word : ℕ → ℕ} {i all : ℕ} → Joined word i all → Joined word (i + 1) (bitOr all (word i))
+joined-word {word} {i} {all} h =
+    let x = word i in
+    record {
+      words = λ e. below-more (λ k. word k ≡ 0) i
+          (h .words (omega (arith, e, or-add-and all x, and-le-r all x)))
+          (omega (arith, e, or-add-and all x, and-le-l all x));
+      whole = λ z. omega (arith, h .whole (λ k lk. z k (omega arith)), z i (omega arith), or-add-and all x);
+    }
 
+-- ---- the words of a set
+
+abbrev pub wordOf : List ℕ → ℕ → ℕ
+wordOf s k = getD s k 0
+
+module _ {s : List ℕ} {i all : ℕ} (h : Joined (wordOf s) i all) where
   -- all words, each 0
   pub joined-empty : 16 ≤ i → all ≡ 0 → (q : ℕ) → In s q → ⊥
   unfolding has
@@ -59,3 +65,19 @@ module _ {s : List ℕ} {i all : ℕ} (h : Joined s i all) where
   -- so there is a product
   pub joined-some : i ≤ 16 → ((k : ℕ) → k < 16 → getD s k 0 < 2 ^ 64) → (all ≡ 0 → ⊥) → (q : ℕ) × In s q
   joined-some le word ne = ⊎-elim (λ m. m) (λ z. absurd (joined-full le word ne (λ q m. omega (arith, z q (m .small), m .is)))) (some-or-none s 1024 (omega arith))
+
+-- ---- the differences of two sets' words
+
+abbrev pub difference : List ℕ → List ℕ → ℕ → ℕ
+difference a b k = bitXor (getD a k 0) (getD b k 0)
+
+-- words that differ in no bit are the same
+xor-none : (x y : ℕ) → bitXor x y ≡ 0 → x ≡ y
+xor-none x y e = omega (arith, xor-add-and x y, and-le-l x y, and-le-r x y)
+
+module _ {a b : List ℕ} {i all : ℕ} (h : Joined (difference a b) i all) where
+  pub joined-same : length a ≡ 16 → length b ≡ 16 → 16 ≤ i → all ≡ 0 → a ≡ b
+  joined-same la lb le e = ext-getD 0 a b (omega arith) (λ k lk. xor-none (getD a k 0) (getD b k 0) (h .words e k (omega arith)))
+
+  pub joined-other : (all ≡ 0 → ⊥) → a ≡ b → ⊥
+  joined-other ne e = ne (h .whole (λ k lk. rw e (xor-self (getD b k 0))))

@@ -5,13 +5,13 @@ use borrow.Author.Tests.{eqb-true, eqb-false}
 use lib.ListN.{getD}
 use mir.Val.{Fits}
 use mir.Syntax.{w64}
-use Rattle.members.proofs.Joined.{Joined, joined-none, joined-word, joined-empty, joined-some}
+use Rattle.members.proofs.Joined.{Joined, wordOf, joined-none, joined-word, joined-empty, joined-some}
 use borrow.Author.Needs.{needs}
 use Rattle.members.proofs.is_empty.Statement.{statement}
 use Rattle.members.proofs.is_empty.Tie as tie
 
 abbrev Inv-loop : tie.InvT-loop
-Inv-loop s all₀ i₀ all i = (i ≤ 16) × Joined s i all
+Inv-loop s all₀ i₀ all i = (i ≤ 16) × Joined (wordOf s) i all
 
 abbrev μ-loop : tie.MeasureT-loop
 μ-loop s all₀ i₀ all i = 16 - i

@@ -1,38 +1,28 @@
--- `same` meets its contract. The loop's invariant: the words passed are equal; lists of one length with equal elements are equal.
--- Assumes nothing.
-use mathlib.Core.Path.{_≡_, ap}
-use mathlib.Core.List.{List}
-use Prim.Native.Nat.{ℕ, _≤_, _<_, _-_}
+-- `same` meets its contract. The loop's invariant: all is 0 exactly where the words passed are the same. Assumes nothing.
+use Prim.Native.Nat.{_≤_, _-_}
 use native.Mathlib.Omega.{arith}
-use borrow.Author.Count.{below-more}
-use lib.ListN.{length, getD}
-use lib.Seq.{ext-getD}
+use borrow.Author.Tests.{eqb-true, eqb-false}
+use Rattle.members.proofs.Joined.{Joined, difference, joined-none, joined-word, joined-same, joined-other}
 use borrow.Author.Needs.{needs}
 use Rattle.members.proofs.same.Statement.{statement}
 use Rattle.members.proofs.same.Tie as tie
 
 abbrev Inv-loop : tie.InvT-loop
-Inv-loop a b i₀ i = (i ≤ 16) × ((k : ℕ) → k < i → getD a k 0 ≡ getD b k 0)
+Inv-loop a b all₀ i₀ all i = (i ≤ 16) × Joined (difference a b) i all
 
 abbrev μ-loop : tie.MeasureT-loop
-μ-loop a b i₀ i = 16 - i
+μ-loop a b all₀ i₀ all i = 16 - i
 
-returns : tie.Need-returns Inv-loop μ-loop
-returns c = (
-  λ e. let z : _≡_ {A = ℕ} 0 1 = cc in absurd (omega arith),
-  λ e f. c .if1 .taken (ap (λ (l : List ℕ). getD l (c .before .before .loop .i) 0) f),
-)
+loop-holds : tie.Need-loop-holds Inv-loop μ-loop
+loop-holds c = (search needs, joined-none _ _ _ (omega arith) (omega arith))
 
 loop-again : tie.Need-loop-again Inv-loop μ-loop
-loop-again c = (search needs, below-more _ _ (c .before .before .loop .inv .1) (c .if1 .left))
+loop-again c = (search needs, joined-word (c .before .loop .inv .1))
 
-returns-2 : tie.Need-returns-2 Inv-loop μ-loop
-returns-2 c =
-    let la : length (c .before .before .args .t1) ≡ 16 = search needs in
-    let lb : length (c .before .before .args .t2) ≡ 16 = search needs in (
-      λ e. ext-getD 0 _ _ (omega arith) (λ k lk. c .before .loop .inv .1 k (omega arith)),
-      λ e f. let z : _≡_ {A = ℕ} 0 1 = cc in omega arith,
-    )
+returns : tie.Need-returns Inv-loop μ-loop
+returns c =
+    let h = c .before .loop .inv .1 in
+    (λ e. joined-same h (search needs) (search needs) (c .loop-test .left) (eqb-true _ _ e), λ e. joined-other h (eqb-false _ _ e))
 
 pub same-spec : {M : Type 1} → statement M
 same-spec =
@@ -40,13 +30,12 @@ same-spec =
     (tie.spec
     Inv-loop
     μ-loop
+    loop-holds
     (λ c. search needs)
     (λ c. search needs)
     (λ c. search needs)
     (λ c. search needs)
-    (λ c. search needs)
-    returns
     (λ c. search needs)
     (λ c. search needs)
     loop-again
-    returns-2)
+    returns)
