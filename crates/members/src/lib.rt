@@ -9,13 +9,13 @@ use products::Found;
 pub fn same(a: [u64; 16], b: [u64; 16]) -> bool
     ensures { λ r. ⌜ (r ≡ true → a ≡ b) × (r ≡ false → a ≡ b → ⊥) ⌝ }
 {
-    let mut all = 0u64;
+    let mut differ = 0u64;
     let mut i = 0;
     while i < 16 {
-        all = all | (a[i] ^ b[i]);
+        differ = differ | (a[i] ^ b[i]);
         i += 1;
     }
-    all == 0
+    differ == 0
 }
 
 // How many products s has.

@@ -1,4 +1,4 @@
--- `same` meets its contract. The loop's invariant: all is 0 exactly where the words passed are the same. Assumes nothing.
+-- `same` meets its contract. The loop's invariant: `differ` is 0 exactly where the words passed are the same. Assumes nothing.
 use Prim.Native.Nat.{_≤_, _-_}
 use native.Mathlib.Omega.{arith}
 use borrow.Author.Tests.{eqb-true, eqb-false}
@@ -8,10 +8,10 @@ use Rattle.members.proofs.same.Statement.{statement}
 use Rattle.members.proofs.same.Tie as tie
 
 abbrev Inv-loop : tie.InvT-loop
-Inv-loop a b all₀ i₀ all i = (i ≤ 16) × Joined (difference a b) i all
+Inv-loop a b differ₀ i₀ differ i = (i ≤ 16) × Joined (difference a b) i differ
 
 abbrev μ-loop : tie.MeasureT-loop
-μ-loop a b all₀ i₀ all i = 16 - i
+μ-loop a b differ₀ i₀ differ i = 16 - i
 
 loop-holds : tie.Need-loop-holds Inv-loop μ-loop
 loop-holds c = (search needs, joined-none _ _ _ (omega arith) (omega arith))
