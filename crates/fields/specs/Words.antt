@@ -1,4 +1,5 @@
--- Eight bytes as one number, and the first of them that is a given byte. Assumes nothing: these are definitions.
+-- Eight bytes as one number, and the first of them that is a given byte: what the functions inside `find` promise each other. Nobody has to believe this
+-- page: the promise of `find` does not speak of it. Assumes nothing: these are definitions.
 use mathlib.Core.Path.{_≡_}
 use Prim.Native.Nat.{ℕ, zero, suc, _+_, _*_, _≤_, _<_}
 
@@ -7,7 +8,7 @@ abbrev pub word : (f : ℕ → ℕ) (n : ℕ) → ℕ
 word f zero = 0
 word f (suc n) = word (λ k. f (suc k)) n * 256 + f 0
 
--- w is the number of the eight bytes f 0 to f 7
+-- w is the number of f 0 to f 7, and each is a byte
 pub record Digits (f : ℕ → ℕ) (w : ℕ) : Type 0 where
   pub whole : w ≡ word f 8
   pub small : (k : ℕ) → f k < 256

@@ -90,6 +90,7 @@ fn eight(s: &[u8], i: usize) -> u64
         + wide(s[i + 7]) * 0x100_0000_0000_0000
 }
 
+// A byte as a word.
 fn wide(b: u8) -> u64
     ensures { λ r. ⌜ (r ≡ b) × (r < 256) ⌝ }
 {
