@@ -2,4 +2,6 @@ pub mod Laws
 pub mod Marks
 pub mod Halving
 pub mod Returns
+pub mod Choices
+pub mod Lengths
 pub mod Determined

@@ -97,7 +97,7 @@ pub marked-set : (a : ℕ) → eqb a 1 ≡ true → eqb a 0 ≡ false
 marked-set a e = ne-eqb a 0 (λ z. omega (arith, eqb-true a 1 e))
 
 -- down by t
-shr-bit : (x t k : ℕ) → bit (x / 2 ^ t) k ≡ bit x (t + k)
+pub shr-bit : (x t k : ℕ) → bit (x / 2 ^ t) k ≡ bit x (t + k)
 shr-bit x t k = ap (λ (n : ℕ). n % 2) (shr-shr x t k)
 
 -- ---- all of twice as many
@@ -381,14 +381,14 @@ packed-lt y (suc n) =
     rw e at (joined-lt (packed y n) (y (suc n)) (2 ^ suc n) (packed-lt y n))
 
 -- what is cut off above does not matter
-cut-bit : (x k m : ℕ) → k < m → bit (x % 2 ^ m) k ≡ bit x k
+pub cut-bit : (x k m : ℕ) → k < m → bit (x % 2 ^ m) k ≡ bit x k
 cut-bit x k m lk =
     let e : m - 1 - k + 1 + k ≡ m = omega arith in
     let a : x % 2 ^ (m - 1 - k + 1 + k) / 2 ^ k ≡ x / 2 ^ k % 2 ^ (m - 1 - k + 1) = field x (m - 1 - k + 1) k in
     let b : x / 2 ^ k % 2 ^ (m - 1 - k + 1) % 2 ^ 1 ≡ x / 2 ^ k % 2 ^ 1 = mod-mod-pow (x / 2 ^ k) (m - 1 - k) 1 in
     ap (λ (n : ℕ). n % 2) (rw e at a) ∙ b
 
-below-bit : (x z m k : ℕ) → x < 2 ^ m → k < m → bit (x + z * 2 ^ m) k ≡ bit x k
+pub below-bit : (x z m k : ℕ) → x < 2 ^ m → k < m → bit (x + z * 2 ^ m) k ≡ bit x k
 below-bit x z m k l lk =
     let e : (z * 2 ^ m + x) % 2 ^ m ≡ x = low z m l in
     let f : x + z * 2 ^ m ≡ z * 2 ^ m + x = omega arith in

@@ -63,7 +63,7 @@ name-row s t (suc n) i l = go (name-row s t n i) (eqb i n) refl
 -- ---- what each return owes
 
 -- the guard of the set's products that the choices c of the features before i allow
-abbrev guardText : ℕ → ℕ → ℕ → List ℕ → List (List ℕ) → List ℕ
+abbrev pub guardText : ℕ → ℕ → ℕ → List ℕ → List (List ℕ) → List ℕ
 guardText n i c set names = print (guardOf i (n - i) (λ q. inSet set (c + q * 2 ^ i))) names []
 
 module _ {l l′ : List ℕ} {at r : ℕ} where
@@ -73,7 +73,7 @@ module _ {l l′ : List ℕ} {at r : ℕ} where
   pub laid-zero : {b : Bool} → Wrote l at (48 ∷ []) l′ r → b ≡ false → Wrote l at (leafText b) l′ r
   laid-zero {b} w e = rw e w
 
-leaf-text : (b : Bool) (names : List (List ℕ)) → print (cond b always never) names [] ≡ leafText b
+pub leaf-text : (b : Bool) (names : List (List ℕ)) → print (cond b always never) names [] ≡ leafText b
 unfolding print
 leaf-text true names = refl
 leaf-text false names = refl
@@ -95,7 +95,7 @@ laid-leaf {n = n} {i} {j} {c} {b} {set} {t} names w told first small le lj none 
     ∙ ap leafText (sym told) in
     rw (g, e) w
 
-choice-text : (text : List ℕ) (rows : List (List ℕ)) (n i : ℕ) (g k : Guard) → i < n
+pub choice-text : (text : List ℕ) (rows : List (List ℕ)) (n i : ℕ) (g k : Guard) → i < n
     → print (choice (feature i) g k) (namesOf text rows n) []
     ≡ (40 ∷ []) ++ (rowName text rows i ++ ((63 ∷ []) ++ (print g (namesOf text rows n) [] ++ ((58 ∷ []) ++ (print k (namesOf text rows n) [] ++ (41 ∷ []))))))
 unfolding print

@@ -3,9 +3,10 @@
 use mathlib.Core.Bool.{Bool, true, false, cond, not, _&&_}
 use mathlib.Core.List.{List, [], _∷_}
 use mathlib.Core.Path.{_≡_}
-use Prim.Native.Nat.{ℕ, zero, suc, _+_, _*_, _-_, _^_, _<_, _≤_}
+use Prim.Native.Nat.{ℕ, zero, suc, _+_, _*_, _-_, _^_, _<_, _≤_, min}
 use lib.Dec.{eqb}
-use Rattle.products.specs.Sets.{bit, has}
+use lib.ListN.{length}
+use Rattle.products.specs.Sets.{bit, has, countTo}
 use Rattle.guards.specs.Guard.{Guard, never, always, feature, choice, holds}
 
 -- whether the set has a product
@@ -75,3 +76,26 @@ pub record First (t : List ℕ) (n i c j : ℕ) : Type 0 where
 abbrev pub leafText : Bool → List ℕ
 leafText true = 49 ∷ []
 leafText false = 48 ∷ []
+
+-- ---- what a guard's length is counted by
+
+-- A number below 2 ^ i stands for the choices made for the first i features. m has those that the guard meets, by the table t: 0; and those with feature
+-- j that it meets without it and splits on it. The first word of m has no others.
+pub record Met (i : ℕ) (t m : List ℕ) : Type 0 where
+  pub long : length m ≡ 16
+  pub first : has m 0 ≡ 1
+  pub split : (j c : ℕ) → j < i → c < 2 ^ j → has m (2 ^ j + c) ≡ min (has m c) (has t (2 ^ j + c))
+  pub blank : (p : ℕ) → 2 ^ i ≤ p → p < 64 → has m p ≡ 0
+
+-- what is met grew from l to m by one feature, number i, on which r of those in l are split
+pub record Further (i : ℕ) (t l m : List ℕ) (r : ℕ) : Type 0 where
+  pub met : Met (i + 1) t m
+  pub kept : (p : ℕ) → p < 2 ^ i → has m p ≡ has l p
+  pub more : countTo m (2 ^ (i + 1)) ≡ countTo m (2 ^ i) + r
+
+-- the same where the features before fill h words, as far as the first w of these are split
+pub record Widened (h : ℕ) (t l m : List ℕ) (w r : ℕ) : Type 0 where
+  pub long : length m ≡ 16
+  pub kept : (p : ℕ) → p < h * 64 → has m p ≡ has l p
+  pub split : (p : ℕ) → p < w * 64 → has m (h * 64 + p) ≡ min (has m p) (has t (h * 64 + p))
+  pub more : countTo m (h * 64 + w * 64) ≡ countTo m (h * 64) + r

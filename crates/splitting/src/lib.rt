@@ -1,6 +1,7 @@
 // A set of products written as a guard: `0`, `1`, or split on the first feature on which it depends.
 // Nothing here knows what the set stands for.
 mod dependence;
+mod length;
 
 ghost use mathlib.Core.List.{List};
 ghost use Prim.Native.Nat.{_+_, _-_, _*_, _^_, _<_, _≤_, min};
@@ -10,7 +11,7 @@ ghost use Rattle.guards.specs.Reading.{namesOf};
 ghost use Rattle.splitting.specs.Splitting.{inSet, guardOf, Within, Tells, leafText};
 
 // Lays the guard of the set's products of the first `count` features; the places of their names in
-// `text` are the rows of `names`.
+// `text` are the rows of `names`. In a full room nothing is laid, and the guard's length is enough.
 pub fn put_guard(
     room: &mut [u8],
     at: usize,
@@ -24,6 +25,12 @@ pub fn put_guard(
     let n = counts::at_most(count, 10);
     let few = products::both(set, products::all(n));
     let table = dependence::table(&few, n);
+    if room.len() <= at {
+        let long = length::guard_length(text, names, n, &table);
+        if 0 < long {
+            return text::place_behind(at, long);
+        }
+    }
     put_set(room, at, text, names, n, 0, 0, &few, &table)
 }
 

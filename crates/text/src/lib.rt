@@ -53,7 +53,7 @@ fn put_some(room: &mut [u8], at: usize, bytes: &[u8]) -> usize
 }
 
 // The place behind n bytes from `at` on.
-fn place_behind(at: usize, n: usize) -> usize
+pub fn place_behind(at: usize, n: usize) -> usize
     ensures { λ r. ⌜ r ≡ behind at n ⌝ }
 {
     if LIMIT <= at {

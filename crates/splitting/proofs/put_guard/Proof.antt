@@ -1,6 +1,8 @@
--- `put_guard` meets its contract: the set cut down to the first features' products, with no choice made yet. Assumes nothing.
+-- `put_guard` meets its contract: the set cut down to the first features' products, with no choice made yet. In a full room nothing is laid, and the
+-- place is behind as many bytes as are counted. Assumes nothing.
 use native.Mathlib.Omega.{arith}
 use Rattle.splitting.proofs.Returns.{laid-whole, whole-within}
+use Rattle.splitting.proofs.Lengths.{laid-counted}
 use borrow.Author.Needs.{needs}
 use Rattle.splitting.proofs.put_guard.Statement.{statement}
 use Rattle.splitting.proofs.put_guard.Tie as tie
@@ -11,16 +13,32 @@ table-requires c κs = (
   whole-within _ _ _ _ (c .before .both .ensures) (c .before .before .all .ensures),
 )
 
-put-set-requires : tie.Need-put-set-requires
-put-set-requires c κs = (omega (arith, c .before .before .before .before .before .before .before .at-most .ensures), omega arith, omega arith)
+guard-length-requires : tie.Need-guard-length-requires
+guard-length-requires c κs = omega (arith, c .before .before .before .before .before .before .at-most .ensures)
 
 returns : tie.Need-returns
 returns c =
-    laid-whole _ _ _ _ _ _ _ _ (c .before .before .put-set .ensures)
-    (c .before .before .before .before .before .before .before .before .before .before .at-most .ensures)
-    (c .before .before .before .before .before .before .before .before .both .ensures)
-    (c .before .before .before .before .before .before .before .before .before .all .ensures)
-    (c .before .before .before .before .before .before .table .ensures)
+    let tested = c .before in
+    let counted = tested .before in
+    let full = counted .before .before in
+    let made = full .before in
+    let cut = made .before .before in
+    let every = cut .before in
+    let good = every .before .before .before .before .good in
+    laid-whole _ _ _ _ _ _ _ _
+    (laid-counted _ _ (counted .guard-length .ensures) (c .place-behind .ensures) (tested .if2 .taken) (full .if1 .taken) (search needs))
+    (every .before .at-most .ensures) (cut .both .ensures) (every .all .ensures) (made .table .ensures)
+
+put-set-requires : tie.Need-put-set-requires
+put-set-requires c κs = (omega (arith, c .before .before .before .before .before .before .before .before .at-most .ensures), omega arith, omega arith)
+
+returns-2 : tie.Need-returns-2
+returns-2 c =
+    let laid = c .before .before in
+    let made = laid .before .before .before .before .before in
+    let cut = made .before .before in
+    let every = cut .before in
+    laid-whole _ _ _ _ _ _ _ _ (laid .put-set .ensures) (every .before .at-most .ensures) (cut .both .ensures) (every .all .ensures) (made .table .ensures)
 
 pub put-guard-spec : {M : Type 1} → statement M
 put-guard-spec =
@@ -30,6 +48,9 @@ put-guard-spec =
     (λ c κs. search needs)
     (λ c κs. search needs)
     table-requires
+    guard-length-requires
+    (λ c κs. search needs)
+    returns
     put-set-requires
     (λ c. search needs)
-    returns)
+    returns-2)
