@@ -9,6 +9,7 @@ use native.Mathlib.Omega.{arith}
 use lib.ListN.{length, getD, take, drop}
 use Rattle.text.specs.Text.{limit, Wrote}
 use Rattle.text.proofs.Laws.{wrote-then, wrote-long, wrote-text, wrote-whole, wrote-end, dry-place}
+use Rattle.products.proofs.Laws.{has-row}
 use Rattle.guards.specs.Guard.{Guard}
 use Rattle.guards.specs.Reading.{namesOf}
 use Rattle.sheet.specs.declared.Counts.{Counts}
@@ -21,7 +22,7 @@ use Rattle.family.specs.Rounds.{stepAt, Spread}
 use Rattle.family.proofs.Meaning.{spread-reaches}
 use Rattle.splitting.specs.Splitting.{inSet, guardOf}
 use Rattle.ordering.specs.Ordering.{keyAt, MadeRow, Orders}
-use Rattle.ordering.proofs.Laws.{orders-low}
+use Rattle.ordering.proofs.Laws.{orders-low, orders-has}
 use Rattle.normal.specs.Clean.{IsClean}
 use Rattle.normal.proofs.Unique.{is-clean-unique}
 use Rattle.cleaning.specs.Forms.{lineOf, linesOf, RowMove, RowsWithin, StopsBelow, FormOf, Prepared}
@@ -78,10 +79,18 @@ prepared {s} {first = first} (r, read, stands) spread orders =
       orders = rw (rows-there stands) at orders;
     }
 
--- the ordered rows are there
-pub within : {key : ℕ → List ℕ} {P : ℕ → Type 0} (count : ℕ) {many : ℕ} {m g : List (List ℕ)} {first order : List ℕ} → Orders key P (min (min (min count 256) (length m)) (length g)) first order many
-    → RowsWithin order many m g
-within count o = record { move = λ i l. omega (arith, orders-low o i l); guard = λ i l. omega (arith, orders-low o i l) }
+-- the ordered rows are there, and their sources have sets
+pub within : {key : ℕ → List ℕ} (count : ℕ) {many : ℕ} {m g sets : List (List ℕ)} {first order : List ℕ}
+    → Orders key (MadeRow m g sets) (min (min (min count 256) (length m)) (length g)) first order many → RowsWithin order many m g sets
+within count {sets = sets} {order = order} o =
+    record {
+      move = λ i l. omega (arith, orders-low o i l);
+      guard = λ i l. omega (arith, orders-low o i l);
+      set = λ i l.
+          let e : getD order i 0 % 256 ≡ getD order i 0 = omega (arith, orders-low o i l) in
+          let made = orders-has o i l in
+          rw e (has-row sets _ (record { small = made .small; is = made .reached }));
+    }
 
 -- more than the smaller of two is more than one of them
 longer-than : (a b : ℕ) {n : ℕ} → min a b < n → (b < n) ⊎ (a < n)

@@ -6,10 +6,10 @@ use mathlib.Core.List.{List, [], _∷_, _++_, append-assoc}
 use Prim.Native.Nat.{ℕ, zero, suc, _-_, _^_, _≤_, _<_, min}
 use native.Mathlib.Omega.{arith}
 use lib.Dec.{eqb}
-use lib.ListN.{length}
+use lib.ListN.{length, getD}
 use lib.Pow.{pow-mono}
 use Rattle.products.specs.Sets.{has, In}
-use Rattle.products.proofs.Laws.{has-le}
+use Rattle.products.proofs.Laws.{has-le, has-row}
 use Rattle.text.specs.Text.{limit, Wrote}
 use Rattle.text.proofs.Laws.{wrote-none, wrote-then}
 use Rattle.fields.specs.Cutting.{join}
@@ -117,6 +117,11 @@ module _ {here guard : List ℕ} (names : List (List ℕ)) {n : ℕ} (h : n ≤ 
   )
 
 -- ---- the stop lines of a state
+
+-- there is none where the state has no set
+pub stop-none : (names sets : List (List ℕ)) {out : List ℕ} {n q : ℕ} {l : List ℕ} {at : ℕ} → length sets ≤ q → length l ≤ limit
+    → (ds : List Stop) × StopAt n (getD sets q []) out q ds × Wrote l at (linesOf (stopRow names) ds) l at
+stop-none names sets {q = q} k h = ([], StopAt.dead (λ p i. omega (arith, has-row sets q (i .first))), rw (lines-none (stopRow names)) (wrote-none h))
 
 module _ {here out : List ℕ} (names : List (List ℕ)) {n q : ℕ} {l : List ℕ} {at : ℕ} where
   pub stop-dead : (both : List ℕ) → ((p : ℕ) → p < 1024 → has both p ≡ min (has here p) (has out p)) → ((p : ℕ) → In both p → ⊥) → length l ≤ limit

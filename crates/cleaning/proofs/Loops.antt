@@ -4,13 +4,14 @@ use mathlib.Core.Path.{_≡_, refl, sym, ap, _∙_}
 use mathlib.Core.Bool.{Bool, true, false}
 use mathlib.Core.List.{List, [], _∷_, _++_}
 use mathlib.Core.Logic.{⊎-elim}
-use Prim.Native.Nat.{ℕ, zero, suc, _+_, _-_, _/_, _%_, _^_, _≤_, _<_, min}
+use Prim.Native.Nat.{ℕ, zero, suc, _+_, _-_, _/_, _%_, _^_, _≤_, _<_, min, max}
 use native.Mathlib.Nat.{eq-or-lt-of-le, zero-div}
 use native.Mathlib.Numerals.{add-one}
 use native.Mathlib.Omega.{arith}
-use lib.ListN.{length, getD}
+use lib.ListN.{length, getD, replicate}
 use lib.Pow.{shr-shr}
-use Rattle.products.specs.Sets.{bit, has, oneIf}
+use Rattle.products.specs.Sets.{bit, has, oneIf, In}
+use Rattle.products.proofs.Laws.{empty-has, has-row}
 use Rattle.text.specs.Text.{limit, Wrote}
 use Rattle.text.proofs.Laws.{wrote-none, wrote-then}
 use Rattle.fields.specs.Bytes.{pieceOf}
@@ -21,6 +22,7 @@ use Rattle.sheet.specs.Spelling.{featureFields, moveFields, moveRow, stopRow}
 use Rattle.sheet.specs.Tables.{Rows, none, next}
 use Rattle.verdicts.specs.Judging.{guardsAt, rowAt}
 use Rattle.verdicts.proofs.Shown.{guards-none}
+use Rattle.verdicts.proofs.Gathered.{out-of-blank}
 use Rattle.cleaning.specs.Forms.{lineOf, linesOf, MadeGuard, RowMove, StopAt, StopsBelow}
 use Rattle.cleaning.proofs.Texts.{lines-none, lines-more, lines-append}
 
@@ -79,12 +81,30 @@ module _ {s : List ℕ} {names moves guards sets : List (List ℕ)} {order : Lis
 
 -- ---- stops
 
+-- `out` has the products of `here` in which the guard of a move out of the state q holds
+abbrev Out : List (List ℕ) → List (List ℕ) → ℕ → List ℕ → ℕ → List ℕ → Type 0
+Out moves guards count here q out = (p : ℕ) → In here p → has out p ≡ guardsAt moves guards q p count
+
+-- so for every state and the products that reach it
+abbrev Outs : List (List ℕ) → List (List ℕ) → List (List ℕ) → ℕ → (ℕ → List ℕ) → Type 0
+Outs moves guards sets count at = (q : ℕ) → q < 64 → Out moves guards count (getD sets q []) q (at q)
+
+-- what `all_out` makes of a blank table that has a row for each state that has a set
+pub all-outs : (moves guards sets : List (List ℕ)) (count : ℕ) (at : ℕ → List ℕ) {old : List (List ℕ)}
+    → old ≡ replicate (length old) (replicate 16 0) → min 64 (length sets) ≤ length old
+    → ((q : ℕ) → q < length old → (p : ℕ) → p < 1024 → has (at q) p ≡ max (has (getD old q []) p) (guardsAt moves guards q p count))
+    → Outs moves guards sets count at
+all-outs moves guards sets count at e l f q lq p i =
+    let k = has-row sets q i in
+    out-of-blank moves guards count at e f q (omega arith) p (i .small)
+
 -- a state that no move line leaves has no stop line
-idle : (moves guards : List (List ℕ)) (n count q : ℕ) (here out : List ℕ) → ((p : ℕ) → p < 1024 → has out p ≡ guardsAt moves guards q p count) → rowAt moves 1 q count ≡ false → StopAt n here out q []
-idle moves guards n count q here out o z = StopAt.dead (λ p i. omega (arith, o p (i .first .small), guards-none moves guards q p count z, i .second))
+idle : (moves guards : List (List ℕ)) (n count q : ℕ) (here out : List ℕ) → Out moves guards count here q out → rowAt moves 1 q count ≡ false
+    → StopAt n here out q []
+idle moves guards n count q here out o z = StopAt.dead (λ p i. omega (arith, o p (i .first), guards-none moves guards q p count z, i .second))
 
 -- nor have those from q on, if no move line leaves one of them
-rest-below : (moves guards sets : List (List ℕ)) (n count : ℕ) (out : ℕ → List ℕ) → ((q : ℕ) → q < 64 → (p : ℕ) → p < 1024 → has (out q) p ≡ guardsAt moves guards q p count)
+rest-below : (moves guards sets : List (List ℕ)) (n count : ℕ) (out : ℕ → List ℕ) → Outs moves guards sets count out
     → (k : ℕ) {q : ℕ} {ds : List Stop} → q ≤ k → k ≤ 64 → ((j : ℕ) → q ≤ j → j < 64 → rowAt moves 1 j count ≡ false)
     → StopsBelow n moves guards sets count q ds → StopsBelow n moves guards sets count k ds
 rest-below moves guards sets n count out o zero {q} l h z b = let e : q ≡ 0 = omega arith in rw e at b
@@ -107,7 +127,7 @@ module _ {s : List ℕ} {names moves guards sets : List (List ℕ)} {n count : �
   stops-none h = record { made = []; below = StopsBelow.none; laid = rw (lines-none (stopRow (namesOf s names n))) (wrote-none h) }
 
   pub stops-more : {q : ℕ} {room′ room″ : List ℕ} {place place′ : ℕ} → StopsLaid s names moves guards sets n count room at q room′ place
-      → (out : List ℕ) → ((p : ℕ) → p < 1024 → has out p ≡ guardsAt moves guards q p count)
+      → (out : List ℕ) → Out moves guards count (getD sets q []) q out
       → (ds : List Stop) × StopAt n (getD sets q []) out q ds × Wrote room′ place (linesOf (stopRow (namesOf s names n)) ds) room″ place′
       → StopsLaid s names moves guards sets n count room at (q + 1) room″ place′
   stops-more l out o (ds, a, w) =
@@ -118,17 +138,25 @@ module _ {s : List ℕ} {names moves guards sets : List (List ℕ)} {n count : �
       }
 
   pub stops-pass : {q : ℕ} {room′ : List ℕ} {place : ℕ} → StopsLaid s names moves guards sets n count room at q room′ place
-      → (out : List ℕ) → ((p : ℕ) → p < 1024 → has out p ≡ guardsAt moves guards q p count) → rowAt moves 1 q count ≡ false
+      → (out : List ℕ) → Out moves guards count (getD sets q []) q out → rowAt moves 1 q count ≡ false
       → StopsLaid s names moves guards sets n count room at (q + 1) room′ place
   stops-pass {q} l out o z =
       record { made = l .made; below = rw add-one (StopsBelow.next out o (idle moves guards n count q (getD sets q []) out o z) (l .below)); laid = l .laid }
 
   -- from the state q on no move line leaves a state
   pub stops-all : {q : ℕ} {room′ : List ℕ} {place : ℕ} → StopsLaid s names moves guards sets n count room at q room′ place
-      → (out : ℕ → List ℕ) → ((q : ℕ) → q < 64 → (p : ℕ) → p < 1024 → has (out q) p ≡ guardsAt moves guards q p count)
-      → q ≤ 64 → ((j : ℕ) → q ≤ j → j < 64 → rowAt moves 1 j count ≡ false)
+      → (out : ℕ → List ℕ) → Outs moves guards sets count out → q ≤ 64 → ((j : ℕ) → q ≤ j → j < 64 → rowAt moves 1 j count ≡ false)
       → (ds : List Stop) × StopsBelow n moves guards sets count 64 ds × Wrote room at (linesOf (stopRow (namesOf s names n)) ds) room′ place
   stops-all l out o h z = (l .made, rest-below moves guards sets n count out o 64 h (omega arith) z (l .below), l .laid)
+
+-- without move lines there are none
+pub stops-free : (s : List ℕ) (names : List (List ℕ)) {moves guards sets : List (List ℕ)} {n count : ℕ} {room : List ℕ} {at : ℕ}
+    → count ≡ 0 → length room ≤ limit → (ds : List Stop) × StopsBelow n moves guards sets (min (min (min count 256) (length moves)) (length guards)) 64 ds
+    × Wrote room at (linesOf (stopRow (namesOf s names n)) ds) room at
+unfolding guardsAt rowAt
+stops-free s names {moves} {guards} {count = count} e h =
+    let z : min (min (min count 256) (length moves)) (length guards) ≡ 0 = omega arith in
+    rw z (stops-all (stops-none h) (λ q. replicate 16 0) (λ q lq p i. empty-has p) (omega arith) (λ j l lj. refl))
 
 -- ---- the marks of the states that a move line leaves, from state q on
 

@@ -4,7 +4,7 @@ use mathlib.Core.List.{List, [], _∷_, _++_}
 use mathlib.Core.Path.{_≡_}
 use Prim.Native.Nat.{ℕ, zero, suc, _%_, _<_, min}
 use lib.ListN.{length, getD}
-use Rattle.products.specs.Sets.{has}
+use Rattle.products.specs.Sets.{has, In}
 use Rattle.fields.specs.Bytes.{pieceOf}
 use Rattle.fields.specs.Cutting.{join}
 use Rattle.guards.specs.Guard.{Guard, always}
@@ -44,10 +44,11 @@ pub record RowMove (s : List ℕ) (n : ℕ) (moves guards sets : List (List ℕ)
   pub to : m .to ≡ getD (getD moves k []) 4 0
   pub guard : MadeGuard n (getD sets (getD (getD moves k []) 1 0 % 64) []) (getD guards k []) (m .guard)
 
--- the first `kept` rows of `order` are there in both tables
-pub record RowsWithin (order : List ℕ) (kept : ℕ) (moves guards : List (List ℕ)) : Type 0 where
+-- the first `kept` rows of `order` are there in both tables, and their sources have sets
+pub record RowsWithin (order : List ℕ) (kept : ℕ) (moves guards sets : List (List ℕ)) : Type 0 where
   pub move : (i : ℕ) → i < kept → getD order i 0 % 256 < length moves
   pub guard : (i : ℕ) → i < kept → getD order i 0 % 256 < length guards
+  pub set : (i : ℕ) → i < kept → getD (getD moves (getD order i 0 % 256) []) 1 0 % 64 < length sets
 
 -- ---- stops
 
@@ -60,7 +61,7 @@ pub data StopAt (n : ℕ) (here out : List ℕ) (q : ℕ) : List Stop → Type 0
 -- those of the states below q
 pub data StopsBelow (n : ℕ) (moves guards sets : List (List ℕ)) (count : ℕ) : ℕ → List Stop → Type 0 where
   none : StopsBelow n moves guards sets count zero []
-  next : {q : ℕ} {ds more : List Stop} (out : List ℕ) → ((p : ℕ) → p < 1024 → has out p ≡ guardsAt moves guards q p count) → StopAt n (getD sets q []) out q more → StopsBelow n moves guards sets count q ds → StopsBelow n moves guards sets count (suc q) (more ++ ds)
+  next : {q : ℕ} {ds more : List Stop} (out : List ℕ) → ((p : ℕ) → In (getD sets q []) p → has out p ≡ guardsAt moves guards q p count) → StopAt n (getD sets q []) out q more → StopsBelow n moves guards sets count q ds → StopsBelow n moves guards sets count (suc q) (more ++ ds)
 
 -- ---- the whole
 

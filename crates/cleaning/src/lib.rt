@@ -4,14 +4,15 @@ mod line;
 
 ghost use mathlib.Core.Path.{_≡_};
 ghost use mathlib.Core.List.{List};
-ghost use Prim.Native.Nat.{ℕ, _%_, _*_, _≤_, min};
+ghost use Prim.Native.Nat.{ℕ, _%_, _*_, _<_, _≤_, min};
 ghost use lib.ListN.{length, getD, replicate};
 ghost use Rattle.text.specs.Text.{Wrote};
 ghost use Rattle.guards.specs.Reading.{namesOf};
 ghost use Rattle.sheet.specs.Sheet.{Move, Stop, Sheet};
 ghost use Rattle.sheet.specs.Tables.{Rows, tables, blankTables, ReadsSheet};
 ghost use Rattle.sheet.specs.Spelling.{featureFields, moveRow, stopRow, textOf};
-ghost use Rattle.cleaning.specs.Forms.{linesOf, RowMove, RowsWithin, StopsBelow, FormOf, Prepared};
+ghost use Rattle.family.specs.Rounds.{stepAt, toAt, highestTo, Spread};
+ghost use Rattle.cleaning.specs.Forms.{linesOf, RowMove, RowsWithin, StopAt, StopsBelow, FormOf, Prepared};
 ghost use Rattle.cleaning.specs.Promise.{CleanPromise};
 use line::put_feature;
 use line::put_move;
@@ -29,17 +30,24 @@ pub enum Answer {
 
 const MOST_BYTES: usize = 65536;
 
-// Nearly every clean sheet is shorter.
-const OWN_BYTES: usize = 12288;
+// How long the buffer is that a clean sheet is laid by way of, by the text's length: LEAST for one of at
+// most LEAST_TEXT bytes, SMALL up to SMALL_TEXT, SHORT up to SHORT_TEXT, else OWN_BYTES. Nearly every clean
+// sheet is shorter.
+const LEAST: usize = 128;
 
-// A sheet of fewer move lines is laid by way of SHORT bytes.
-const FEW: usize = 32;
+const SMALL: usize = 512;
 
 const SHORT: usize = 2048;
 
+const OWN_BYTES: usize = 12288;
+
 // How long a text may be for each size of tables: a move line has at least 13 bytes and a stop line 9, so
-// that these have at most 16, 36, 90 and 144 move lines. Nothing hangs on the sizes but speed.
-const SMALL_TEXT: usize = 208;
+// that these have at most 3, 9, 13, 36, 90 and 144 move lines. Nothing hangs on the sizes but speed.
+const LEAST_TEXT: usize = 39;
+
+const TINY_TEXT: usize = 117;
+
+const SMALL_TEXT: usize = 169;
 
 const SHORT_TEXT: usize = 468;
 
@@ -47,11 +55,20 @@ const MIDDLE_TEXT: usize = 1170;
 
 const LONG_TEXT: usize = 1872;
 
-// Lays the clean form of the sheet `text` into `room`, by way of tables whose size goes by the text's
-// length.
+// Where no product reaches this state or a later one, the states' sets have only so many rows.
+const LOW: usize = 8;
+
+// Lays the clean form of the sheet `text` into `room`, by way of a buffer and tables whose sizes go by
+// the text's length.
 pub fn clean(text: &[u8], room: &mut [u8]) -> Answer
     ensures { λ r. ⌜ CleanPromise (now (text .entry)) (now (room .entry)) (now (room .exit)) r ⌝ }
 {
+    if text.len() <= LEAST_TEXT {
+        return clean_least(text, room);
+    }
+    if text.len() <= TINY_TEXT {
+        return clean_tiny(text, room);
+    }
     if text.len() <= SMALL_TEXT {
         return clean_small(text, room);
     }
@@ -67,17 +84,61 @@ pub fn clean(text: &[u8], room: &mut [u8]) -> Answer
     clean_large(text, room)
 }
 
-// The same for a small text.
-fn clean_small(text: &[u8], room: &mut [u8]) -> Answer
-    requires { ⌜ length (now text) ≤ 208 ⌝ }
+// The same for a text of very few bytes.
+fn clean_least(text: &[u8], room: &mut [u8]) -> Answer
+    requires { ⌜ length (now text) ≤ 39 ⌝ }
     ensures { λ r. ⌜ CleanPromise (now (text .entry)) (now (room .entry)) (now (room .exit)) r ⌝ }
 {
-    let mut moves = [[0usize; 6]; 16];
-    let mut move_guards = [[0u64; 16]; 16];
-    let mut stops = [[0usize; 2]; 24];
-    let mut stop_guards = [[0u64; 16]; 24];
+    let mut own = [0u8; LEAST];
+    let mut moves = [[0usize; 6]; 3];
+    let mut move_guards = [[0u64; 16]; 3];
+    let mut stops = [[0usize; 2]; 5];
+    let mut stop_guards = [[0u64; 16]; 5];
     clean_by(
         text,
+        &mut own,
+        room,
+        &mut moves,
+        &mut move_guards,
+        &mut stops,
+        &mut stop_guards,
+    )
+}
+
+// The same for a tiny text.
+fn clean_tiny(text: &[u8], room: &mut [u8]) -> Answer
+    requires { ⌜ length (now text) ≤ 117 ⌝ }
+    ensures { λ r. ⌜ CleanPromise (now (text .entry)) (now (room .entry)) (now (room .exit)) r ⌝ }
+{
+    let mut own = [0u8; SMALL];
+    let mut moves = [[0usize; 6]; 9];
+    let mut move_guards = [[0u64; 16]; 9];
+    let mut stops = [[0usize; 2]; 13];
+    let mut stop_guards = [[0u64; 16]; 13];
+    clean_by(
+        text,
+        &mut own,
+        room,
+        &mut moves,
+        &mut move_guards,
+        &mut stops,
+        &mut stop_guards,
+    )
+}
+
+// The same for a small text.
+fn clean_small(text: &[u8], room: &mut [u8]) -> Answer
+    requires { ⌜ length (now text) ≤ 169 ⌝ }
+    ensures { λ r. ⌜ CleanPromise (now (text .entry)) (now (room .entry)) (now (room .exit)) r ⌝ }
+{
+    let mut own = [0u8; SMALL];
+    let mut moves = [[0usize; 6]; 13];
+    let mut move_guards = [[0u64; 16]; 13];
+    let mut stops = [[0usize; 2]; 19];
+    let mut stop_guards = [[0u64; 16]; 19];
+    clean_by(
+        text,
+        &mut own,
         room,
         &mut moves,
         &mut move_guards,
@@ -91,12 +152,14 @@ fn clean_short(text: &[u8], room: &mut [u8]) -> Answer
     requires { ⌜ length (now text) ≤ 468 ⌝ }
     ensures { λ r. ⌜ CleanPromise (now (text .entry)) (now (room .entry)) (now (room .exit)) r ⌝ }
 {
+    let mut own = [0u8; SHORT];
     let mut moves = [[0usize; 6]; 36];
     let mut move_guards = [[0u64; 16]; 36];
     let mut stops = [[0usize; 2]; 52];
     let mut stop_guards = [[0u64; 16]; 52];
     clean_by(
         text,
+        &mut own,
         room,
         &mut moves,
         &mut move_guards,
@@ -110,12 +173,14 @@ fn clean_middle(text: &[u8], room: &mut [u8]) -> Answer
     requires { ⌜ length (now text) ≤ 1170 ⌝ }
     ensures { λ r. ⌜ CleanPromise (now (text .entry)) (now (room .entry)) (now (room .exit)) r ⌝ }
 {
+    let mut own = [0u8; OWN_BYTES];
     let mut moves = [[0usize; 6]; 90];
     let mut move_guards = [[0u64; 16]; 90];
     let mut stops = [[0usize; 2]; 64];
     let mut stop_guards = [[0u64; 16]; 64];
     clean_by(
         text,
+        &mut own,
         room,
         &mut moves,
         &mut move_guards,
@@ -129,12 +194,14 @@ fn clean_long(text: &[u8], room: &mut [u8]) -> Answer
     requires { ⌜ length (now text) ≤ 1872 ⌝ }
     ensures { λ r. ⌜ CleanPromise (now (text .entry)) (now (room .entry)) (now (room .exit)) r ⌝ }
 {
+    let mut own = [0u8; OWN_BYTES];
     let mut moves = [[0usize; 6]; 144];
     let mut move_guards = [[0u64; 16]; 144];
     let mut stops = [[0usize; 2]; 64];
     let mut stop_guards = [[0u64; 16]; 64];
     clean_by(
         text,
+        &mut own,
         room,
         &mut moves,
         &mut move_guards,
@@ -147,12 +214,14 @@ fn clean_long(text: &[u8], room: &mut [u8]) -> Answer
 fn clean_large(text: &[u8], room: &mut [u8]) -> Answer
     ensures { λ r. ⌜ CleanPromise (now (text .entry)) (now (room .entry)) (now (room .exit)) r ⌝ }
 {
+    let mut own = [0u8; OWN_BYTES];
     let mut moves = [[0usize; 6]; 256];
     let mut move_guards = [[0u64; 16]; 256];
     let mut stops = [[0usize; 2]; 64];
     let mut stop_guards = [[0u64; 16]; 64];
     clean_by(
         text,
+        &mut own,
         room,
         &mut moves,
         &mut move_guards,
@@ -161,9 +230,10 @@ fn clean_large(text: &[u8], room: &mut [u8]) -> Answer
     )
 }
 
-// The clean sheet by way of tables that are blank and have rows enough for the text.
+// The clean sheet by way of a buffer, and of tables that are blank and have rows enough for the text.
 fn clean_by(
     text: &[u8],
+    own: &mut [u8],
     room: &mut [u8],
     moves: &mut [[usize; 6]],
     move_guards: &mut [[u64; 16]],
@@ -188,12 +258,51 @@ fn clean_by(
     let SheetRead::Kept(c) = r else {
         return pass_up(r);
     };
-    clean_read(text, room, c, &names, valid, moves, move_guards)
+    clean_read(text, own, room, c, &names, valid, moves, move_guards)
 }
 
 // The clean sheet of the sheet that was read into the tables.
 fn clean_read(
     text: &[u8],
+    own: &mut [u8],
+    room: &mut [u8],
+    c: Counts,
+    names: &[[usize; 2]; 10],
+    valid: [u64; 16],
+    moves: &[[usize; 6]],
+    guards: &[[u64; 16]],
+) -> Answer
+    ensures { λ r. ⌜ ((t h : List (List ℕ)) → ReadsSheet (now (text .entry)) (tables (now (names .entry)) valid (now (moves .entry)) (now (guards .entry)) t h) (SheetRead.Kept c) → CleanPromise (now (text .entry)) (now (room .entry)) (now (room .exit)) r) ⌝ }
+{
+    if family::highest(c.start, c.moves, moves) < LOW {
+        return clean_low(text, own, room, c, names, valid, moves, guards);
+    }
+    clean_high(text, own, room, c, names, valid, moves, guards)
+}
+
+// The same where the start and every state that a move leads to are below LOW.
+fn clean_low(
+    text: &[u8],
+    own: &mut [u8],
+    room: &mut [u8],
+    c: Counts,
+    names: &[[usize; 2]; 10],
+    valid: [u64; 16],
+    moves: &[[usize; 6]],
+    guards: &[[u64; 16]],
+) -> Answer
+    requires { ⌜ highestTo (c .start % 64) (toAt (now moves)) (min (min (c .moves) 256) (length (now moves))) < 8 ⌝ }
+    ensures { λ r. ⌜ ((t h : List (List ℕ)) → ReadsSheet (now (text .entry)) (tables (now (names .entry)) valid (now (moves .entry)) (now (guards .entry)) t h) (SheetRead.Kept c) → CleanPromise (now (text .entry)) (now (room .entry)) (now (room .exit)) r) ⌝ }
+{
+    let mut sets = [[0u64; 16]; 8];
+    family::spread_low(c.start, valid, c.moves, moves, guards, &mut sets);
+    clean_by_sets(text, own, room, c, names, valid, moves, guards, &sets)
+}
+
+// The same for every sheet.
+fn clean_high(
+    text: &[u8],
+    own: &mut [u8],
     room: &mut [u8],
     c: Counts,
     names: &[[usize; 2]; 10],
@@ -205,9 +314,27 @@ fn clean_read(
 {
     let mut sets = [[0u64; 16]; 64];
     family::spread(c.start, valid, c.moves, moves, guards, &mut sets);
-    let mut order = [0usize; 256];
-    let kept = ordering::order_moves(text, c.moves, moves, guards, &sets, &mut order);
+    clean_by_sets(text, own, room, c, names, valid, moves, guards, &sets)
+}
+
+// The same by the states' sets.
+fn clean_by_sets(
+    text: &[u8],
+    own: &mut [u8],
+    room: &mut [u8],
+    c: Counts,
+    names: &[[usize; 2]; 10],
+    valid: [u64; 16],
+    moves: &[[usize; 6]],
+    guards: &[[u64; 16]],
+    sets: &[[u64; 16]],
+) -> Answer
+    ensures { λ r. ⌜ ((t h : List (List ℕ)) (depth : ℕ) → ReadsSheet (now (text .entry)) (tables (now (names .entry)) valid (now (moves .entry)) (now (guards .entry)) t h) (SheetRead.Kept c) → Spread (c .start % 64) valid (stepAt (now (moves .entry)) (now (guards .entry))) (min (min (min (c .moves) 256) (length (now (moves .entry)))) (length (now (guards .entry)))) (now (sets .entry)) depth → CleanPromise (now (text .entry)) (now (room .entry)) (now (room .exit)) r) ⌝ }
+{
+    let mut order = [0u8; 256];
+    let kept = ordering::order_moves(text, c.moves, moves, guards, sets, &mut order);
     lay(
+        own,
         room,
         text,
         c,
@@ -215,102 +342,15 @@ fn clean_read(
         valid,
         moves,
         guards,
-        &sets,
+        sets,
         &order,
         kept,
     )
 }
 
-// Lays the clean sheet into the room if it is not too long, by way of a buffer: a small one where the
-// move lines are few.
+// Lays the clean sheet into the room if it is not too long. It is made in the buffer `own`, which tells
+// its length; what outgrows the buffer is made again in the room itself.
 fn lay(
-    room: &mut [u8],
-    text: &[u8],
-    c: Counts,
-    names: &[[usize; 2]; 10],
-    valid: [u64; 16],
-    moves: &[[usize; 6]],
-    guards: &[[u64; 16]],
-    sets: &[[u64; 16]; 64],
-    rows: &[usize; 256],
-    kept: usize,
-) -> Answer
-    requires { ⌜ RowsWithin (now rows) kept (now moves) (now guards) ⌝ }
-    ensures { λ r. ⌜ ((t h : List (List ℕ)) → Prepared (now (text .entry)) c (tables (now (names .entry)) valid (now (moves .entry)) (now (guards .entry)) t h) (now (sets .entry)) (now (rows .entry)) kept → CleanPromise (now (text .entry)) (now (room .entry)) (now (room .exit)) r) ⌝ }
-{
-    if c.moves < FEW {
-        return lay_few(room, text, c, names, valid, moves, guards, sets, rows, kept);
-    }
-    lay_many(room, text, c, names, valid, moves, guards, sets, rows, kept)
-}
-
-// The same for few move lines.
-fn lay_few(
-    room: &mut [u8],
-    text: &[u8],
-    c: Counts,
-    names: &[[usize; 2]; 10],
-    valid: [u64; 16],
-    moves: &[[usize; 6]],
-    guards: &[[u64; 16]],
-    sets: &[[u64; 16]; 64],
-    rows: &[usize; 256],
-    kept: usize,
-) -> Answer
-    requires { ⌜ RowsWithin (now rows) kept (now moves) (now guards) ⌝ }
-    ensures { λ r. ⌜ ((t h : List (List ℕ)) → Prepared (now (text .entry)) c (tables (now (names .entry)) valid (now (moves .entry)) (now (guards .entry)) t h) (now (sets .entry)) (now (rows .entry)) kept → CleanPromise (now (text .entry)) (now (room .entry)) (now (room .exit)) r) ⌝ }
-{
-    let mut own = [0u8; SHORT];
-    lay_by(
-        &mut own,
-        room,
-        text,
-        c,
-        names,
-        valid,
-        moves,
-        guards,
-        sets,
-        rows,
-        kept,
-    )
-}
-
-// The same for many.
-fn lay_many(
-    room: &mut [u8],
-    text: &[u8],
-    c: Counts,
-    names: &[[usize; 2]; 10],
-    valid: [u64; 16],
-    moves: &[[usize; 6]],
-    guards: &[[u64; 16]],
-    sets: &[[u64; 16]; 64],
-    rows: &[usize; 256],
-    kept: usize,
-) -> Answer
-    requires { ⌜ RowsWithin (now rows) kept (now moves) (now guards) ⌝ }
-    ensures { λ r. ⌜ ((t h : List (List ℕ)) → Prepared (now (text .entry)) c (tables (now (names .entry)) valid (now (moves .entry)) (now (guards .entry)) t h) (now (sets .entry)) (now (rows .entry)) kept → CleanPromise (now (text .entry)) (now (room .entry)) (now (room .exit)) r) ⌝ }
-{
-    let mut own = [0u8; OWN_BYTES];
-    lay_by(
-        &mut own,
-        room,
-        text,
-        c,
-        names,
-        valid,
-        moves,
-        guards,
-        sets,
-        rows,
-        kept,
-    )
-}
-
-// The clean sheet is made in the buffer `own`, which tells its length; what outgrows the buffer is made
-// again in the room itself.
-fn lay_by(
     own: &mut [u8],
     room: &mut [u8],
     text: &[u8],
@@ -319,11 +359,11 @@ fn lay_by(
     valid: [u64; 16],
     moves: &[[usize; 6]],
     guards: &[[u64; 16]],
-    sets: &[[u64; 16]; 64],
-    rows: &[usize; 256],
+    sets: &[[u64; 16]],
+    rows: &[u8; 256],
     kept: usize,
 ) -> Answer
-    requires { ⌜ RowsWithin (now rows) kept (now moves) (now guards) ⌝ }
+    requires { ⌜ RowsWithin (now rows) kept (now moves) (now guards) (now sets) ⌝ }
     ensures { λ r. ⌜ ((t h : List (List ℕ)) → Prepared (now (text .entry)) c (tables (now (names .entry)) valid (now (moves .entry)) (now (guards .entry)) t h) (now (sets .entry)) (now (rows .entry)) kept → CleanPromise (now (text .entry)) (now (room .entry)) (now (room .exit)) r) ⌝ }
 {
     let n = put_clean(own, text, c, names, valid, moves, guards, sets, rows, kept);
@@ -363,11 +403,11 @@ fn put_clean(
     valid: [u64; 16],
     moves: &[[usize; 6]],
     guards: &[[u64; 16]],
-    sets: &[[u64; 16]; 64],
-    order: &[usize; 256],
+    sets: &[[u64; 16]],
+    order: &[u8; 256],
     kept: usize,
 ) -> usize
-    requires { ⌜ RowsWithin (now order) kept (now moves) (now guards) ⌝ }
+    requires { ⌜ RowsWithin (now order) kept (now moves) (now guards) (now sets) ⌝ }
     ensures { λ r. ⌜ ((t h : List (List ℕ)) → (f : Sheet) × FormOf (now (text .entry)) c (tables (now (names .entry)) valid (now (moves .entry)) (now (guards .entry)) t h) (now (sets .entry)) (now (order .entry)) kept f × Wrote (now (room .entry)) 0 (textOf f) (now (room .exit)) r) ⌝ }
 {
     let features = c.features;
@@ -410,7 +450,8 @@ fn put_features(
     next
 }
 
-// The lines of the kept moves, in their order; the rows are there in both tables.
+// The lines of the kept moves, in their order; the rows are there in both tables, and their sources
+// have sets.
 fn put_moves(
     room: &mut [u8],
     at: usize,
@@ -419,18 +460,18 @@ fn put_moves(
     features: usize,
     moves: &[[usize; 6]],
     guards: &[[u64; 16]],
-    sets: &[[u64; 16]; 64],
-    order: &[usize; 256],
+    sets: &[[u64; 16]],
+    order: &[u8; 256],
     kept: usize,
 ) -> usize
-    requires { ⌜ RowsWithin (now order) kept (now moves) (now guards) ⌝ }
+    requires { ⌜ RowsWithin (now order) kept (now moves) (now guards) (now sets) ⌝ }
     ensures { λ r. ⌜ ((ms : List Move) × Rows (λ i m. RowMove (now (text .entry)) (min features 10) (now (moves .entry)) (now (guards .entry)) (now (sets .entry)) (getD (now (order .entry)) i 0 % 256) m) (min kept 256) ms × Wrote (now (room .entry)) at (linesOf (moveRow (namesOf (now (text .entry)) (now (names .entry)) (min features 10))) ms) (now (room .exit)) r) ⌝ }
 {
     let n = counts::at_most(kept, 256);
     let mut next = at;
     let mut i = 0;
     while i < n {
-        let k = order[i] % 256;
+        let k = ordering::number(order[i]) % 256;
         let row = moves[k];
         let from = row[1] % 64;
         next = put_move(
@@ -448,7 +489,7 @@ fn put_moves(
     next
 }
 
-// The stop lines, by state, up to the last state that a move line leaves.
+// The stop lines, by state, up to the last state that a move line leaves; without moves there are none.
 fn put_stops(
     room: &mut [u8],
     at: usize,
@@ -458,12 +499,78 @@ fn put_stops(
     count: usize,
     moves: &[[usize; 6]],
     guards: &[[u64; 16]],
-    sets: &[[u64; 16]; 64],
+    sets: &[[u64; 16]],
 ) -> usize
     ensures { λ r. ⌜ ((ds : List Stop) × StopsBelow (min features 10) (now (moves .entry)) (now (guards .entry)) (now (sets .entry)) (min (min (min count 256) (length (now (moves .entry)))) (length (now (guards .entry)))) 64 ds × Wrote (now (room .entry)) at (linesOf (stopRow (namesOf (now (text .entry)) (now (names .entry)) (min features 10))) ds) (now (room .exit)) r) ⌝ }
 {
+    if count == 0 {
+        return at;
+    }
+    if sets.len() <= LOW {
+        return put_stops_low(room, at, text, names, features, count, moves, guards, sets);
+    }
     let mut out = [[0u64; 16]; 64];
-    verdicts::all_out(count, moves, guards, &mut out);
+    put_stops_by(
+        room,
+        at,
+        text,
+        names,
+        features,
+        count,
+        moves,
+        guards,
+        sets,
+        &mut out,
+    )
+}
+
+// The same where at most LOW states have sets.
+fn put_stops_low(
+    room: &mut [u8],
+    at: usize,
+    text: &[u8],
+    names: &[[usize; 2]; 10],
+    features: usize,
+    count: usize,
+    moves: &[[usize; 6]],
+    guards: &[[u64; 16]],
+    sets: &[[u64; 16]],
+) -> usize
+    requires { ⌜ length (now sets) ≤ 8 ⌝ }
+    ensures { λ r. ⌜ ((ds : List Stop) × StopsBelow (min features 10) (now (moves .entry)) (now (guards .entry)) (now (sets .entry)) (min (min (min count 256) (length (now (moves .entry)))) (length (now (guards .entry)))) 64 ds × Wrote (now (room .entry)) at (linesOf (stopRow (namesOf (now (text .entry)) (now (names .entry)) (min features 10))) ds) (now (room .exit)) r) ⌝ }
+{
+    let mut out = [[0u64; 16]; 8];
+    put_stops_by(
+        room,
+        at,
+        text,
+        names,
+        features,
+        count,
+        moves,
+        guards,
+        sets,
+        &mut out,
+    )
+}
+
+// The same by way of a blank table `out` that has a row for each state that has a set.
+fn put_stops_by(
+    room: &mut [u8],
+    at: usize,
+    text: &[u8],
+    names: &[[usize; 2]; 10],
+    features: usize,
+    count: usize,
+    moves: &[[usize; 6]],
+    guards: &[[u64; 16]],
+    sets: &[[u64; 16]],
+    out: &mut [[u64; 16]],
+) -> usize
+    requires { ⌜ (now out ≡ replicate (length (now out)) (replicate 16 0)) × (min 64 (length (now sets)) ≤ length (now out)) ⌝ }
+    ensures { λ r. ⌜ ((ds : List Stop) × StopsBelow (min features 10) (now (moves .entry)) (now (guards .entry)) (now (sets .entry)) (min (min (min count 256) (length (now (moves .entry)))) (length (now (guards .entry)))) 64 ds × Wrote (now (room .entry)) at (linesOf (stopRow (namesOf (now (text .entry)) (now (names .entry)) (min features 10))) ds) (now (room .exit)) r) ⌝ }
+{
+    verdicts::all_out(count, moves, guards, out);
     let rows = counts::at_most(count, guards.len());
     let leaves = verdicts::states_at(rows, moves, 1);
     let mut next = at;
@@ -471,10 +578,30 @@ fn put_stops(
     let mut q = 0;
     while left != 0 {
         if left % 2 == 1 {
-            next = put_stop(room, next, text, names, features, q, sets[q], out[q]);
+            next = put_stop_at(room, next, text, names, features, q, sets, out);
         }
         left = left / 2;
         q += 1;
     }
     next
+}
+
+// The stop line of the state q; one that has no row in `sets` is reached by nobody and has none.
+fn put_stop_at(
+    room: &mut [u8],
+    at: usize,
+    text: &[u8],
+    names: &[[usize; 2]; 10],
+    features: usize,
+    q: usize,
+    sets: &[[u64; 16]],
+    out: &[[u64; 16]],
+) -> usize
+    requires { ⌜ (q < 64) × (min 64 (length (now sets)) ≤ length (now out)) ⌝ }
+    ensures { λ r. ⌜ ((more : List Stop) × StopAt (min features 10) (getD (now (sets .entry)) q List.[]) (getD (now (out .entry)) q List.[]) q more × Wrote (now (room .entry)) at (linesOf (stopRow (namesOf (now (text .entry)) (now (names .entry)) (min features 10))) more) (now (room .exit)) r) ⌝ }
+{
+    if sets.len() <= q {
+        return at;
+    }
+    put_stop(room, at, text, names, features, q, sets[q], out[q])
 }

@@ -70,12 +70,12 @@ module _ {key : ℕ → List ℕ} {x k : ℕ} {order : List ℕ} where
   pub between-start : Between key x k order 0 k
   between-start = record { stay = λ i h. absurd (omega arith); follow = λ i h l. absurd (omega arith) }
 
-  module _ {low high m : ℕ} (v : Level key k order) (b : Between key x k order low high) (h : m < k) {t : Bool}
-      (e : t ≡ lessBytes (key x) (key (getD order m 0))) where
+  module _ {low high m : ℕ} (v : Level key k order) (b : Between key x k order low high) (h : m < k) {y : ℕ} (n : y ≡ getD order m 0) {t : Bool}
+      (e : t ≡ lessBytes (key x) (key y)) where
     -- x is before the row in the middle, so also before those behind it
     pub between-front : t ≡ true → Between key x k order low m
     between-front f =
-        let l : lessBytes (key x) (key (getD order m 0)) ≡ true = sym e ∙ f in
+        let l : lessBytes (key x) (key (getD order m 0)) ≡ true = rw n at (sym e ∙ f) in
         record {
           stay = b .stay;
           follow =
@@ -89,7 +89,7 @@ module _ {key : ℕ → List ℕ} {x k : ℕ} {order : List ℕ} where
     -- it is not, so neither before those in front of it
     pub between-back : t ≡ false → Between key x k order (m + 1) high
     between-back f =
-        let l : lessBytes (key x) (key (getD order m 0)) ≡ false = sym e ∙ f in
+        let l : lessBytes (key x) (key (getD order m 0)) ≡ false = rw n at (sym e ∙ f) in
         record {
           stay =
               λ i g.

@@ -1,18 +1,22 @@
 -- Row after row: a row that no product makes is passed over, and any other is put in its place among those before it. Assumes nothing.
 use mathlib.Core.Path.{_≡_, refl, sym, ap, _∙_}
 use mathlib.Core.List.{List, [], _++_}
-use Prim.Native.Nat.{ℕ, _+_, _%_, _<_, min}
+use Prim.Native.Nat.{ℕ, _+_, _%_, _≤_, _<_, min}
 use native.Mathlib.Numerals.{add-one}
 use native.Mathlib.Omega.{arith}
 use lib.ListN.{length, getD, take, drop, length-append, length-drop}
 use lib.Seq.{take-at, drop-append-add, drop-drop}
 use Rattle.products.specs.Sets.{has, In}
-use Rattle.products.proofs.Laws.{has-le}
+use Rattle.products.proofs.Laws.{has-le, has-row}
 use Rattle.ordering.specs.Ordering.{MadeRow, insertBy, none, takes, passes, Orders}
 use Rattle.ordering.specs.Halving.{Level}
 use Rattle.ordering.proofs.Laws.{insert-length, orders-few, orders-level}
 
 -- ---- whether some product makes the row's move
+
+-- nothing reaches a source that has no set
+pub row-none : (t guards sets : List (List ℕ)) (i : ℕ) → length sets ≤ getD (getD t i []) 1 0 % 64 → MadeRow t guards sets i → ⊥
+row-none t guards sets i h m = omega (arith, has-row sets (getD (getD t i []) 1 0 % 64) (record { small = m .small; is = m .reached }))
 
 module _ (t guards sets : List (List ℕ)) (i : ℕ) (w : List ℕ)
     (both : (p : ℕ) → p < 1024 → has w p ≡ min (has (getD sets (getD (getD t i []) 1 0 % 64) []) p) (has (getD guards i []) p)) where

@@ -14,8 +14,8 @@ pub fn order_moves(
     count: usize,
     moves: &[[usize; 6]],
     guards: &[[u64; 16]],
-    sets: &[[u64; 16]; 64],
-    order: &mut [usize; 256],
+    sets: &[[u64; 16]],
+    order: &mut [u8; 256],
 ) -> usize
     ensures { λ r. ⌜ Orders (keyAt (now (text .entry)) (now (moves .entry))) (MadeRow (now (moves .entry)) (now (guards .entry)) (now (sets .entry))) (min (min (min count 256) (length (now (moves .entry)))) (length (now (guards .entry)))) (now (order .entry)) (now (order .exit)) r ⌝ }
 {
@@ -34,7 +34,7 @@ pub fn order_moves(
 
 // That there are 256 places is in the type alone: of an array that is lent no proof sees it, of one by
 // value it does.
-fn all_places(order: [usize; 256])
+fn all_places(order: [u8; 256])
     ensures { λ _. ⌜ length order ≡ 256 ⌝ }
 {}
 
@@ -45,8 +45,8 @@ fn order_row(
     i: usize,
     moves: &[[usize; 6]],
     guards: &[[u64; 16]],
-    sets: &[[u64; 16]; 64],
-    order: &mut [usize; 256],
+    sets: &[[u64; 16]],
+    order: &mut [u8; 256],
     kept: usize,
 ) -> usize
     requires { ⌜ (kept ≤ i) × (i < 256) × (i < length (now moves)) × (i < length (now guards)) ⌝ }
@@ -54,6 +54,9 @@ fn order_row(
 {
     let row = moves[i];
     let from = row[1] % 64;
+    if sets.len() <= from {
+        return kept;
+    }
     if members::is_empty(products::both(sets[from], guards[i])) {
         return kept;
     }
@@ -62,8 +65,8 @@ fn order_row(
 }
 
 // Puts row x in its place among the first k of `order`, which are in order.
-fn insert(text: &[u8], moves: &[[usize; 6]], order: &mut [usize; 256], k: usize, x: usize)
-    requires { ⌜ k < 256 ⌝ }
+fn insert(text: &[u8], moves: &[[usize; 6]], order: &mut [u8; 256], k: usize, x: usize)
+    requires { ⌜ (k < 256) × (x < 256) ⌝ }
     ensures { λ _. ⌜ (length (now (order .entry)) ≡ 256 → Level (keyAt (now (text .entry)) (now (moves .entry))) k (now (order .entry)) → now (order .exit) ≡ insertBy (keyAt (now (text .entry)) (now (moves .entry))) x (take k (now (order .entry))) ++ drop (k + 1) (now (order .entry))) ⌝ }
 {
     let place = place_of(text, moves, order, k, x);
@@ -72,7 +75,7 @@ fn insert(text: &[u8], moves: &[[usize; 6]], order: &mut [usize; 256], k: usize,
 
 // How many of the first k of `order`, which are in order, stay in front of row x: each turn halves what is
 // left between those that stay and those that x comes before.
-fn place_of(text: &[u8], moves: &[[usize; 6]], order: &[usize; 256], k: usize, x: usize) -> usize
+fn place_of(text: &[u8], moves: &[[usize; 6]], order: &[u8; 256], k: usize, x: usize) -> usize
     requires { ⌜ k < 256 ⌝ }
     ensures { λ r. ⌜ (r ≤ k) × (Level (keyAt (now (text .entry)) (now (moves .entry))) k (now (order .entry)) → Between (keyAt (now (text .entry)) (now (moves .entry))) x k (now (order .entry)) r r) ⌝ }
 {
@@ -81,7 +84,7 @@ fn place_of(text: &[u8], moves: &[[usize; 6]], order: &[usize; 256], k: usize, x
     let mut high = k;
     while low < high {
         let middle = low + (high - low) / 2;
-        let y = order[middle];
+        let y = number(order[middle]);
         if before(text, row, row_at(moves, y % 256)) {
             high = middle;
         } else {
@@ -89,6 +92,13 @@ fn place_of(text: &[u8], moves: &[[usize; 6]], order: &[usize; 256], k: usize, x
         }
     }
     low
+}
+
+// The number of a row, as wide as tables ask for.
+pub fn number(x: u8) -> usize
+    ensures { λ r. ⌜ r ≡ x ⌝ }
+{
+    x as usize
 }
 
 // Row i, or a row of zeros where the table ends before it: both have the key of row i.
@@ -102,11 +112,11 @@ fn row_at(moves: &[[usize; 6]], i: usize) -> [usize; 6]
 }
 
 // Puts x at `place` among the first k of `order`: what stands from there on is carried on by one.
-fn shift(order: &mut [usize; 256], place: usize, k: usize, x: usize)
-    requires { ⌜ (place ≤ k) × (k < 256) ⌝ }
+fn shift(order: &mut [u8; 256], place: usize, k: usize, x: usize)
+    requires { ⌜ (place ≤ k) × (k < 256) × (x < 256) ⌝ }
     ensures { λ _. ⌜ (length (now (order .entry)) ≡ 256 → now (order .exit) ≡ take place (now (order .entry)) ++ ((x ∷ drop place (take k (now (order .entry)))) ++ drop (k + 1) (now (order .entry)))) ⌝ }
 {
-    let mut carried = x;
+    let mut carried = x as u8;
     let mut j = place;
     while j < k {
         let y = order[j];

@@ -1,15 +1,15 @@
 -- Laws of sets of products, for those who use them: what membership and counts are, whatever the set. Assumes nothing.
 use mathlib.Core.Path.{_≡_, refl, sym, _∙_}
-use mathlib.Core.List.{List}
+use mathlib.Core.List.{List, [], _∷_}
 use mathlib.Core.Bool.{Bool, true, false}
 use Prim.Native.Nat.{ℕ, zero, suc, _+_, _*_, _/_, _%_, _^_, _<_, _≤_}
 use native.Mathlib.Omega.{arith}
 use native.Mathlib.Numerals.{add-one}
 use native.Mathlib.Nat.{add-zero}
 use lib.Count.{ones}
-use lib.ListN.{getD, replicate, getD-replicate}
+use lib.ListN.{length, getD, replicate, getD-replicate}
 use lib.Seq.{ext-getD}
-use Rattle.products.specs.Sets.{bit, has, oneIf, countTo, Words}
+use Rattle.products.specs.Sets.{bit, has, oneIf, In, countTo, Words}
 use Rattle.products.proofs.Bits.{eq-bits, zero-bit, ones-bit, bits, ones-bits}
 
 -- membership is 0 or 1
@@ -32,6 +32,17 @@ same-members {a} {b} wa wb h =
     (λ w lw. let lt : w < 16 = omega (arith, wa .long) in
     eq-bits 64 (getD a w 0) (getD b w 0) (wa .word w) (wb .word w)
     (λ k lk. sym (has-at a w k lk) ∙ h (w * 64 + k) (omega arith) ∙ has-at b w k lk))
+
+-- no words, no product
+pub nothing-has : (p : ℕ) → has [] p ≡ 0
+unfolding has
+nothing-has p = zero-bit (p % 64)
+
+-- of a table of sets only those that have a row have a product
+pub has-row : (sets : List (List ℕ)) (q : ℕ) {p : ℕ} → In (getD sets q []) p → q < length sets
+has-row [] q {p} i = absurd (omega (arith, i .is, nothing-has p))
+has-row (s ∷ sets) zero i = omega arith
+has-row (s ∷ sets) (suc q) i = let l = has-row sets q i in omega arith
 
 -- the set `[0; 16]` has no product
 pub empty-has : (p : ℕ) → has (replicate 16 0) p ≡ 0

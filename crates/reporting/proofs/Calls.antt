@@ -1,14 +1,15 @@
 -- The report from its four parts, and what `lay` leaves: refused by 11 with the room kept, or done. A run in the buffer and a run in the room lay
 -- the same text, because only one text is a sheet's report. Assumes nothing.
 use mathlib.Core.Path.{_≡_, refl, sym, ap, _∙_}
-use mathlib.Core.List.{List, _++_}
+use mathlib.Core.List.{List, [], _++_}
 use mathlib.Core.Logic.{_⊎_, inr}
 use Prim.Native.Nat.{ℕ, _-_, _*_, _%_, _≤_, _<_, min}
 use native.Mathlib.Omega.{arith}
-use lib.ListN.{length, take, drop, replicate, length-replicate}
+use lib.ListN.{length, getD, take, drop, replicate, length-replicate}
 use Rattle.text.specs.Text.{limit, Wrote}
 use Rattle.text.proofs.Laws.{wrote-then, wrote-long, wrote-text, wrote-whole, wrote-end, dry-fits, dry-too-long}
-use Rattle.products.specs.Sets.{has}
+use Rattle.products.specs.Sets.{has, In}
+use Rattle.products.proofs.Laws.{has-row}
 use Rattle.sheet.specs.declared.Counts.{Counts}
 use Rattle.sheet.specs.Sheet.{Sheet}
 use Rattle.sheet.specs.Reading.{kept, refused, readSheet}
@@ -36,11 +37,11 @@ whole-report {depth = depth} (x, xs, u) (y, ys, v) (z, zs, w) deep t = (
   wrote-then u (wrote-then v (wrote-then w t)),
 )
 
--- what the guards of the rows that are there give is what those of all moves give
-pub is-outward : {c : Counts} {m g t h sets : List (List ℕ)} {r : Sheet} (at : ℕ → List ℕ) → Ready c m g t h sets r
-    → ((q : ℕ) → q < 64 → (p : ℕ) → p < 1024 → has (at q) p ≡ guardsAt m g q p (min (min (min (c .moves) 256) (length m)) (length g)))
-    → (q : ℕ) → q < 64 → (p : ℕ) → p < 1024 → has (at q) p ≡ guardsAt m g q p (min (c .moves) 256)
-is-outward {m = m} {g = g} at w f q lq p lp = f q lq p lp ∙ ap (guardsAt m g q p) (guarded-moves w)
+-- the rows that are there tell of every state that has a set what the guards of all moves give
+pub is-outward : {c : Counts} {m g t h sets : List (List ℕ)} {r : Sheet} (rows : ℕ) (at : ℕ → List ℕ) → Ready c m g t h sets r → min 64 (length sets) ≤ rows
+    → ((q : ℕ) → q < rows → (p : ℕ) → p < 1024 → has (at q) p ≡ guardsAt m g q p (min (min (min (c .moves) 256) (length m)) (length g)))
+    → (q : ℕ) → q < 64 → (p : ℕ) → In (getD sets q []) p → has (at q) p ≡ guardsAt m g q p (min (c .moves) 256)
+is-outward {m = m} {g = g} {sets = sets} rows at w l f q lq p i = let k = has-row sets q i in f q (omega arith) p (i .small) ∙ ap (guardsAt m g q p) (guarded-moves w)
 
 -- ---- the tables that `report` lends
 
@@ -71,8 +72,14 @@ Enough s k d =
 enough : (s : List ℕ) (k d : ℕ) → min (length s) 3328 ≤ 13 * k → min (length s) 576 ≤ 9 * d → Enough s k d
 enough s k d a b = rw (rows-long k 6, rows-long k 16, rows-long d 2, rows-long d 16) (a, a, b, b)
 
-pub enough-small : (s : List ℕ) → length s ≤ 208 → Enough s 16 24
-enough-small s l = enough s 16 24 (omega arith) (omega arith)
+pub enough-least : (s : List ℕ) → length s ≤ 39 → Enough s 3 5
+enough-least s l = enough s 3 5 (omega arith) (omega arith)
+
+pub enough-tiny : (s : List ℕ) → length s ≤ 117 → Enough s 9 13
+enough-tiny s l = enough s 9 13 (omega arith) (omega arith)
+
+pub enough-small : (s : List ℕ) → length s ≤ 169 → Enough s 13 19
+enough-small s l = enough s 13 19 (omega arith) (omega arith)
 
 pub enough-short : (s : List ℕ) → length s ≤ 468 → Enough s 36 52
 enough-short s l = enough s 36 52 (omega arith) (omega arith)

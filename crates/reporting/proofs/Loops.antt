@@ -12,25 +12,30 @@ use native.Mathlib.Omega.{arith}
 use borrow.Author.Tests.{eq-eqb, ne-eqb}
 use lib.Bits.{bitOr}
 use lib.Dec.{eqb}
-use lib.ListN.{length, getD, drop, drop-of-length-le, replicate}
+use lib.ListN.{length, getD, drop, drop-of-length-le, replicate, List·getD-eq-default}
 use lib.Pow.{shr-shr}
 use Rattle.text.specs.Text.{limit, Wrote}
 use Rattle.text.proofs.Laws.{wrote-none, wrote-then, wrote-long}
 use Rattle.products.specs.Sets.{bit, has, oneIf, countTo}
 use Rattle.products.proofs.Bits.{bit-or, zero-bit}
-use Rattle.products.proofs.Laws.{empty-has}
+use Rattle.products.proofs.Laws.{empty-has, nothing-has, has-row}
+use Rattle.products.specs.declared.Found.the-variants.{Nothing}
 use Rattle.sheet.specs.declared.Counts.{Counts}
 use Rattle.sheet.specs.Sheet.{Move, Stop, Sheet}
 use Rattle.sheet.specs.Tables.{Rows, none, next}
 use Rattle.sheet.proofs.Rows.{rows-length}
 use Rattle.verdicts.specs.declared.Verdict.{Verdict}
+use Rattle.verdicts.specs.declared.Verdict.the-variants.{Dead}
 use Rattle.verdicts.specs.declared.StateVerdict.{StateVerdict}
+use Rattle.verdicts.specs.declared.StateVerdict.the-variants.{Unreached}
 use Rattle.verdicts.specs.declared.StopVerdict.{StopVerdict}
+use Rattle.verdicts.specs.declared.StopVerdict.the-variants.{Idle}
 use Rattle.verdicts.specs.Verdicts.{JudgedAs, StopAs, Named}
 use Rattle.verdicts.specs.Judging.{MoveSets, StateSets, StopSets, guardsAt, rowAt}
 use Rattle.verdicts.proofs.Gathered.{mark-one}
 use Rattle.verdicts.proofs.Shown.{Tells, guards-none}
-use Rattle.verdicts.proofs.Meaning.{named-means, count-judged, move-judged, state-judged, stop-judged}
+use Rattle.verdicts.proofs.Answers.{none-move, none-stop}
+use Rattle.verdicts.proofs.Meaning.{named-means, reached-agree, count-judged, move-judged, state-judged, stop-judged}
 use Rattle.reporting.specs.Report.{moveRow, stateRow, stopRow, MoveRows, StateRows, StopRows}
 use Rattle.reporting.specs.Promise.{Ready, Outward, Marked, Told}
 use Rattle.sheet.proofs.Accepted.{good-move, good-stop}
@@ -97,6 +102,22 @@ module _ {c : Counts} {m g t h sets : List (List ℕ)} {r : Sheet} (w : Ready c 
       let l : c .stops ≤ length t = w .stands .filled .stops .few in
       let k : c .stops ≤ length h = w .stands .filled .stopGuards .few in
       omega arith
+
+-- ---- a state that has no row is reached by nobody
+
+pub past-move : (sets : List (List ℕ)) {q : ℕ} (guard : List ℕ) (plain : ℕ) → length sets ≤ q → MoveSets (getD sets q []) guard plain (Dead Nothing)
+past-move sets guard plain l = rw (List·getD-eq-default sets [] l) (none-move guard plain)
+
+pub past-stop : (sets : List (List ℕ)) {q : ℕ} (guard out : List ℕ) → length sets ≤ q → StopSets (getD sets q []) guard out Idle
+past-stop sets guard out l = rw (List·getD-eq-default sets [] l) (none-stop guard out)
+
+nothing-counted : (n : ℕ) → countTo [] n ≡ 0
+unfolding countTo
+nothing-counted zero = refl
+nothing-counted (suc n) = omega (arith, nothing-counted n, nothing-has n)
+
+past-count : (sets : List (List ℕ)) {q : ℕ} → length sets ≤ q → countTo (getD sets q []) 1024 ≡ 0
+past-count sets l = rw (List·getD-eq-default sets [] l) (nothing-counted 1024)
 
 -- ---- moves
 
@@ -182,7 +203,7 @@ StatesUpto q r vs = StateRows _≤_ r q vs
 pub record StatesReady (c : Counts) (m t h sets out : List (List ℕ)) (r : Sheet) : Type 0 where
   pub guards : List (List ℕ)
   pub ready : Ready c m guards t h sets r
-  pub outward : Outward c m guards out
+  pub outward : Outward c m guards sets out
 
 -- a mark is 1 where its test is true
 mark-told : {n : ℕ} (b : Bool) → n ≡ oneIf b → eqb n 1 ≡ b
@@ -287,7 +308,7 @@ module _ {named q rest : ℕ} (l : Left named q rest) where
   left-first = ap (λ (n : ℕ). n % 2) (sym (l .is))
 
 module _ {c : Counts} {m g t h sets : List (List ℕ)} {r : Sheet} (w : Ready c m g t h sets r) {leaves stopped named : ℕ} (k : Marks c m t leaves stopped named) where
-  marks-told : {out : List (List ℕ)} → Outward c m g out → Told c m g t out leaves stopped
+  marks-told : {out : List (List ℕ)} → Outward c m g sets out → Told c m g t sets out leaves stopped
   marks-told o =
       record {
         outward = o;
@@ -337,7 +358,7 @@ module _ {c : Counts} {m t h sets out : List (List ℕ)} {room : List ℕ} {at :
         })
 
     pub states-more : {room″ room‴ : List ℕ} {next″ next‴ : ℕ} → room‴ ≡ room″ → next‴ ≡ next″ → (rest ≡ 0 → ⊥) → rest % 2 ≡ 1 → length room″ ≡ length room′
-        → ((m g : List (List ℕ)) (r : Sheet) → Ready c m g t h sets r → Told c m g t out leaves stopped → Named r q
+        → ((m g : List (List ℕ)) (r : Sheet) → Ready c m g t h sets r → Told c m g t sets out leaves stopped → Named r q
         → (vs : List ℕ) × ((before : List ℕ) → StateRows _≤_ r q before → StateRows _≤_ r (suc q) (before ++ vs)) × Wrote room′ next vs room″ next″)
         → Laid (StatesReady c m t h sets out) StatesUpto room at (q + 1) room‴ next‴
     unfolding StatesUpto
@@ -348,7 +369,7 @@ module _ {c : Counts} {m t h sets out : List (List ℕ)} {room : List ℕ} {at :
         (λ r w. let x = put m (w .guards) r (w .ready) (marks-told (w .ready) k (w .outward)) (is-named (w .ready) k lq (left-first f ∙ o)) in
         (x .0, λ vs s. rw add-one (x .1 vs s), x .2)))
 
-    pub states-all : rest ≡ 0 → (g : List (List ℕ)) (r : Sheet) → Ready c m g t h sets r → Outward c m g out
+    pub states-all : rest ≡ 0 → (g : List (List ℕ)) (r : Sheet) → Ready c m g t h sets r → Outward c m g sets out
         → (vs : List ℕ) × StateRows _≤_ r 64 vs × Wrote room at vs room′ next
     unfolding StatesUpto
     states-all z g r w o =
@@ -363,7 +384,7 @@ pub state-laid : {c : Counts} {t h sets out : List (List ℕ)} {leaves stopped q
     → (v : StateVerdict) {k at next : ℕ} {room room′ : List ℕ} → Wrote room at (stateRow q v k) room′ next → k ≡ countTo (getD sets q []) 1024 → (declared : List ℕ)
     → ((n : ℕ) → n ≡ min (min (min (c .stops) 64) (length t)) (length h) → bit stopped q ≡ oneIf (rowAt t 1 q n) → (p : ℕ) → p < 1024 → has declared p ≡ guardsAt t h q p n)
     → StateSets (getD sets q []) (eqb (bit leaves q) 1) (getD out q []) declared v
-    → (m g : List (List ℕ)) (r : Sheet) → Ready c m g t h sets r → Told c m g t out leaves stopped → Named r q
+    → (m g : List (List ℕ)) (r : Sheet) → Ready c m g t h sets r → Told c m g t sets out leaves stopped → Named r q
     → (vs : List ℕ) × ((before : List ℕ) → StateRows _≤_ r q before → StateRows _≤_ r (suc q) (before ++ vs)) × Wrote room at vs room′ next
 state-laid {c} {out = out} {q = q} lq v {k} l e declared d x m g r w told i = (
   stateRow q v k,
@@ -376,6 +397,19 @@ state-laid {c} {out = out} {q = q} lq v {k} l e declared d x m g r w told i = (
   l,
 )
 
+-- the same where the state has no row
+pub state-past : {c : Counts} {t h sets out : List (List ℕ)} {leaves stopped q : ℕ} → q < 64 → length sets ≤ q
+    → {at next : ℕ} {room room′ : List ℕ} → Wrote room at (stateRow q Unreached 0) room′ next
+    → (m g : List (List ℕ)) (r : Sheet) → Ready c m g t h sets r → Told c m g t sets out leaves stopped → Named r q
+    → (vs : List ℕ) × ((before : List ℕ) → StateRows _≤_ r q before → StateRows _≤_ r (suc q) (before ++ vs)) × Wrote room at vs room′ next
+state-past {sets = sets} {q = q} lq past l m g r w told i = (
+  stateRow q Unreached 0,
+  λ before s.
+      StateRows.named {k = 0} Unreached i (λ p b. omega (arith, has-row sets q (reached-agree (w .accepted) (w .reaches) lq .back p b)))
+      (rw (past-count sets past) at (count-judged (w .accepted) (w .reaches) lq)) s,
+  l,
+)
+
 -- ---- stop lines
 
 -- the first n rows are for all stop lines of the sheet, and `out` is what the guards of its moves give
@@ -385,7 +419,7 @@ pub record StopsReady (n : ℕ) (t h sets out : List (List ℕ)) (r : Sheet) : T
   pub guards : List (List ℕ)
   pub is : n ≡ min (min (min (counts .stops) 64) (length t)) (length h)
   pub ready : Ready counts moves guards t h sets r
-  pub outward : Outward counts moves guards out
+  pub outward : Outward counts moves guards sets out
 
 -- the rows of the first i stop lines, of n
 unfoldable pub StopsUpto : ℕ → ℕ → Sheet → List ℕ → Type 0
@@ -440,7 +474,7 @@ module _ {n : ℕ} {t h sets out : List (List ℕ)} {room : List ℕ} {at : ℕ}
   stops-more {i} v l w lt s = laid-more l (wrote-long w) (λ r p. (stopRow (getD (getD t i []) 0 0) v, λ vs q. one-stop p v vs lt s q, w))
 
   pub stops-all : {i : ℕ} {room′ : List ℕ} {next : ℕ} → Laid (StopsReady n t h sets out) (StopsUpto n) room at i room′ next → n ≤ i → {c : Counts} → n ≡ min (min (min (c .stops) 64) (length t)) (length h)
-      → (m g : List (List ℕ)) (r : Sheet) → Ready c m g t h sets r → Outward c m g out → (vs : List ℕ) × StopRows _≤_ r (r .stops) vs × Wrote room at vs room′ next
+      → (m g : List (List ℕ)) (r : Sheet) → Ready c m g t h sets r → Outward c m g sets out → (vs : List ℕ) × StopRows _≤_ r (r .stops) vs × Wrote room at vs room′ next
   unfolding StopsUpto
   stops-all {i} l k {c} e m g r w o =
       let x = l .text r (record { counts = c; moves = m; guards = g; is = e; ready = w; outward = o }) in

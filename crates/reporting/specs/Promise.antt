@@ -5,7 +5,7 @@ use mathlib.Core.Logic.{_⊎_}
 use mathlib.Core.Path.{_≡_}
 use Prim.Native.Nat.{ℕ, _≤_, _<_, min}
 use lib.ListN.{length, drop, getD}
-use Rattle.products.specs.Sets.{bit, has, oneIf}
+use Rattle.products.specs.Sets.{bit, has, oneIf, In}
 use Rattle.sheet.specs.declared.Counts.{Counts}
 use Rattle.sheet.specs.Sheet.{Sheet}
 use Rattle.sheet.specs.Reading.{kept, refused, readSheet}
@@ -51,16 +51,16 @@ pub record Ready (c : Counts) (m g t h sets : List (List ℕ)) (r : Sheet) : Typ
   pub accepted : Accepted r
   pub reaches : Reaches r (λ q. getD sets q [])
 
--- `out` has for each state the products in which the guard of a move line out of it holds
-abbrev pub Outward : Counts → List (List ℕ) → List (List ℕ) → List (List ℕ) → Type 0
-Outward c m g out = (q : ℕ) → q < 64 → (p : ℕ) → p < 1024 → has (getD out q []) p ≡ guardsAt m g q p (min (c .moves) 256)
+-- `out` tells for each state, of the products that reach it, in which the guard of a move line out of it holds
+abbrev pub Outward : Counts → List (List ℕ) → List (List ℕ) → List (List ℕ) → List (List ℕ) → Type 0
+Outward c m g sets out = (q : ℕ) → q < 64 → (p : ℕ) → In (getD sets q []) p → has (getD out q []) p ≡ guardsAt m g q p (min (c .moves) 256)
 
 -- bit q is 1 or 0 for each state q, by a test
 abbrev pub Marked : ℕ → (ℕ → Bool) → Type 0
 Marked marks f = (q : ℕ) → q < 64 → bit marks q ≡ oneIf (f q)
 
 -- what one pass over the rows told of each state: `out`, and the marks of those that a move line leaves and of those that a stop line is for
-pub record Told (c : Counts) (m g t out : List (List ℕ)) (leaves stopped : ℕ) : Type 0 where
-  pub outward : Outward c m g out
+pub record Told (c : Counts) (m g t sets out : List (List ℕ)) (leaves stopped : ℕ) : Type 0 where
+  pub outward : Outward c m g sets out
   pub left : Marked leaves (λ q. rowAt m 1 q (min (c .moves) 256))
   pub declared : Marked stopped (λ q. rowAt t 1 q (min (c .stops) 64))

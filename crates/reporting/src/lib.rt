@@ -12,11 +12,14 @@ ghost use Rattle.text.specs.Text.{Wrote};
 ghost use Rattle.products.specs.Sets.{bit, has, oneIf};
 ghost use Rattle.sheet.specs.Sheet.{Sheet};
 ghost use Rattle.sheet.specs.Reading.{kept, readSheet};
+ghost use Rattle.sheet.specs.Tables.{tables, ReadsSheet};
 ghost use Rattle.verdicts.specs.Verdicts.{Named};
-ghost use Rattle.verdicts.specs.Judging.{MoveSets, guardsAt, rowAt};
+ghost use Rattle.verdicts.specs.Judging.{MoveSets, StopSets, guardsAt, rowAt};
 ghost use Rattle.family.specs.Ways.{Depth};
+ghost use Rattle.family.specs.Rounds.{toAt, highestTo};
 ghost use Rattle.reporting.specs.Report.{IsReport, MoveRows, StateRows, StopRows};
 ghost use Rattle.reporting.specs.Promise.{ReportPromise, Ready, Outward, Marked, Told};
+use products::Found;
 use row::put_depth;
 use row::put_move;
 use row::put_state;
@@ -24,6 +27,9 @@ use row::put_stop;
 use sheet::Counts;
 use sheet::SheetRead;
 use verdicts::Judged;
+use verdicts::StateVerdict;
+use verdicts::StopVerdict;
+use verdicts::Verdict;
 
 // Done with the text's length, or refused with number and line.
 pub enum Answer {
@@ -32,8 +38,12 @@ pub enum Answer {
 }
 
 // How long a text may be for each size of tables: a move line has at least 13 bytes and a stop line 9, so
-// that these have at most 16, 36, 90 and 144 move lines. Nothing hangs on the sizes but speed.
-const SMALL_TEXT: usize = 208;
+// that these have at most 3, 9, 13, 36, 90 and 144 move lines. Nothing hangs on the sizes but speed.
+const LEAST_TEXT: usize = 39;
+
+const TINY_TEXT: usize = 117;
+
+const SMALL_TEXT: usize = 169;
 
 const SHORT_TEXT: usize = 468;
 
@@ -41,11 +51,20 @@ const MIDDLE_TEXT: usize = 1170;
 
 const LONG_TEXT: usize = 1872;
 
-// The buffers, by the number of moves; nothing hangs on these but speed. A report of an accepted sheet is
-// never as long as OWN, and one of fewer moves than FEW seldom as long as SHORT.
-const FEW: usize = 64;
+// Where no product reaches a state from here on, the states' sets have so many rows.
+const LOW: usize = 8;
 
-const SHORT: usize = 2048;
+// The buffers, by the same sizes. A report of an accepted sheet is never as long as OWN, and one of a
+// shorter text seldom as long as its buffer.
+const LEAST: usize = 128;
+
+const SMALL: usize = 512;
+
+const SHORT: usize = 1024;
+
+const MIDDLE: usize = 4096;
+
+const LONG: usize = 8192;
 
 const OWN: usize = 12288;
 
@@ -53,6 +72,12 @@ const OWN: usize = 12288;
 pub fn report(text: &[u8], room: &mut [u8]) -> Answer
     ensures { λ r. ⌜ ReportPromise (now (text .entry)) (now (room .entry)) (now (room .exit)) r ⌝ }
 {
+    if text.len() <= LEAST_TEXT {
+        return report_least(text, room);
+    }
+    if text.len() <= TINY_TEXT {
+        return report_tiny(text, room);
+    }
     if text.len() <= SMALL_TEXT {
         return report_small(text, room);
     }
@@ -68,17 +93,61 @@ pub fn report(text: &[u8], room: &mut [u8]) -> Answer
     report_large(text, room)
 }
 
-// The same for a small text.
-fn report_small(text: &[u8], room: &mut [u8]) -> Answer
-    requires { ⌜ length (now text) ≤ 208 ⌝ }
+// The same for a text of three lines or a few more bytes.
+fn report_least(text: &[u8], room: &mut [u8]) -> Answer
+    requires { ⌜ length (now text) ≤ 39 ⌝ }
     ensures { λ r. ⌜ ReportPromise (now (text .entry)) (now (room .entry)) (now (room .exit)) r ⌝ }
 {
-    let mut moves = [[0usize; 6]; 16];
-    let mut move_guards = [[0u64; 16]; 16];
-    let mut stops = [[0usize; 2]; 24];
-    let mut stop_guards = [[0u64; 16]; 24];
+    let mut moves = [[0usize; 6]; 3];
+    let mut move_guards = [[0u64; 16]; 3];
+    let mut stops = [[0usize; 2]; 5];
+    let mut stop_guards = [[0u64; 16]; 5];
+    let mut own = [0u8; LEAST];
     report_by(
         text,
+        &mut own,
+        room,
+        &mut moves,
+        &mut move_guards,
+        &mut stops,
+        &mut stop_guards,
+    )
+}
+
+// The same for a tiny text.
+fn report_tiny(text: &[u8], room: &mut [u8]) -> Answer
+    requires { ⌜ length (now text) ≤ 117 ⌝ }
+    ensures { λ r. ⌜ ReportPromise (now (text .entry)) (now (room .entry)) (now (room .exit)) r ⌝ }
+{
+    let mut moves = [[0usize; 6]; 9];
+    let mut move_guards = [[0u64; 16]; 9];
+    let mut stops = [[0usize; 2]; 13];
+    let mut stop_guards = [[0u64; 16]; 13];
+    let mut own = [0u8; SMALL];
+    report_by(
+        text,
+        &mut own,
+        room,
+        &mut moves,
+        &mut move_guards,
+        &mut stops,
+        &mut stop_guards,
+    )
+}
+
+// The same for a small text.
+fn report_small(text: &[u8], room: &mut [u8]) -> Answer
+    requires { ⌜ length (now text) ≤ 169 ⌝ }
+    ensures { λ r. ⌜ ReportPromise (now (text .entry)) (now (room .entry)) (now (room .exit)) r ⌝ }
+{
+    let mut moves = [[0usize; 6]; 13];
+    let mut move_guards = [[0u64; 16]; 13];
+    let mut stops = [[0usize; 2]; 19];
+    let mut stop_guards = [[0u64; 16]; 19];
+    let mut own = [0u8; SMALL];
+    report_by(
+        text,
+        &mut own,
         room,
         &mut moves,
         &mut move_guards,
@@ -96,8 +165,10 @@ fn report_short(text: &[u8], room: &mut [u8]) -> Answer
     let mut move_guards = [[0u64; 16]; 36];
     let mut stops = [[0usize; 2]; 52];
     let mut stop_guards = [[0u64; 16]; 52];
+    let mut own = [0u8; SHORT];
     report_by(
         text,
+        &mut own,
         room,
         &mut moves,
         &mut move_guards,
@@ -115,8 +186,10 @@ fn report_middle(text: &[u8], room: &mut [u8]) -> Answer
     let mut move_guards = [[0u64; 16]; 90];
     let mut stops = [[0usize; 2]; 64];
     let mut stop_guards = [[0u64; 16]; 64];
+    let mut own = [0u8; MIDDLE];
     report_by(
         text,
+        &mut own,
         room,
         &mut moves,
         &mut move_guards,
@@ -134,8 +207,10 @@ fn report_long(text: &[u8], room: &mut [u8]) -> Answer
     let mut move_guards = [[0u64; 16]; 144];
     let mut stops = [[0usize; 2]; 64];
     let mut stop_guards = [[0u64; 16]; 64];
+    let mut own = [0u8; LONG];
     report_by(
         text,
+        &mut own,
         room,
         &mut moves,
         &mut move_guards,
@@ -152,8 +227,10 @@ fn report_large(text: &[u8], room: &mut [u8]) -> Answer
     let mut move_guards = [[0u64; 16]; 256];
     let mut stops = [[0usize; 2]; 64];
     let mut stop_guards = [[0u64; 16]; 64];
+    let mut own = [0u8; OWN];
     report_by(
         text,
+        &mut own,
         room,
         &mut moves,
         &mut move_guards,
@@ -165,6 +242,7 @@ fn report_large(text: &[u8], room: &mut [u8]) -> Answer
 // The same by way of tables that are blank and have rows enough for the text.
 fn report_by(
     text: &[u8],
+    own: &mut [u8],
     room: &mut [u8],
     moves: &mut [[usize; 6]],
     move_guards: &mut [[u64; 16]],
@@ -189,13 +267,37 @@ fn report_by(
     let SheetRead::Kept(c) = r else {
         return pass_up(r);
     };
-    let mut sets = [[0u64; 16]; 64];
-    let depth = family::spread(c.start, valid, c.moves, moves, move_guards, &mut sets);
+    if family::highest(c.start, c.moves, moves) < LOW {
+        return report_low(own, room, c, valid, moves, move_guards, stops, stop_guards);
+    }
+    report_high(own, room, c, valid, moves, move_guards, stops, stop_guards)
+}
+
+// The report of the sheet that was read into the tables, where no product reaches a state from 8 on.
+fn report_low(
+    own: &mut [u8],
+    room: &mut [u8],
+    c: Counts,
+    valid: [u64; 16],
+    moves: &[[usize; 6]],
+    move_guards: &[[u64; 16]],
+    stops: &[[usize; 2]],
+    stop_guards: &[[u64; 16]],
+) -> Answer
+    requires { ⌜ highestTo (c .start % 64) (toAt (now moves)) (min (min (c .moves) 256) (length (now moves))) < 8 ⌝ }
+    ensures { λ a. ⌜ ((s : List ℕ) (n : List (List ℕ)) → ReadsSheet s (tables n valid (now (moves .entry)) (now («move_guards» .entry)) (now (stops .entry)) (now («stop_guards» .entry))) (SheetRead.Kept c) → ReportPromise s (now (room .entry)) (now (room .exit)) a) ⌝ }
+{
+    let mut sets = [[0u64; 16]; 8];
+    let depth = family::spread_low(c.start, valid, c.moves, moves, move_guards, &mut sets);
+    let mut out = [[0u64; 16]; 8];
+    verdicts::all_out(c.moves, moves, move_guards, &mut out);
     lay(
+        own,
         room,
         c,
         depth,
         &sets,
+        &out,
         moves,
         move_guards,
         stops,
@@ -203,40 +305,30 @@ fn report_by(
     )
 }
 
-// Lays the report into the room, if it fits, by way of a buffer by the sheet's size.
-fn lay(
+// The same for every sheet.
+fn report_high(
+    own: &mut [u8],
     room: &mut [u8],
     c: Counts,
-    depth: usize,
-    sets: &[[u64; 16]; 64],
+    valid: [u64; 16],
     moves: &[[usize; 6]],
     move_guards: &[[u64; 16]],
     stops: &[[usize; 2]],
     stop_guards: &[[u64; 16]],
 ) -> Answer
-    ensures { λ a. ⌜ ((s : List ℕ) (r : Sheet) → readSheet s ≡ kept r → Ready c (now (moves .entry)) (now («move_guards» .entry)) (now (stops .entry)) (now («stop_guards» .entry)) (now (sets .entry)) r → Depth r depth → ReportPromise s (now (room .entry)) (now (room .exit)) a) ⌝ }
+    ensures { λ a. ⌜ ((s : List ℕ) (n : List (List ℕ)) → ReadsSheet s (tables n valid (now (moves .entry)) (now («move_guards» .entry)) (now (stops .entry)) (now («stop_guards» .entry))) (SheetRead.Kept c) → ReportPromise s (now (room .entry)) (now (room .exit)) a) ⌝ }
 {
-    if c.moves < FEW {
-        let mut own = [0u8; SHORT];
-        return lay_by(
-            &mut own,
-            room,
-            c,
-            depth,
-            sets,
-            moves,
-            move_guards,
-            stops,
-            stop_guards,
-        );
-    }
-    let mut own = [0u8; OWN];
-    lay_by(
-        &mut own,
+    let mut sets = [[0u64; 16]; 64];
+    let depth = family::spread(c.start, valid, c.moves, moves, move_guards, &mut sets);
+    let mut out = [[0u64; 16]; 64];
+    verdicts::all_out(c.moves, moves, move_guards, &mut out);
+    lay(
+        own,
         room,
         c,
         depth,
-        sets,
+        &sets,
+        &out,
         moves,
         move_guards,
         stops,
@@ -244,22 +336,34 @@ fn lay(
     )
 }
 
-// The same by way of the buffer `own`, whose text tells the length. A report that is longer than the buffer
-// is written once more, into the room.
-fn lay_by(
+// Lays the report into the room, if it fits, by way of the buffer `own`, whose text tells the length. A
+// report that is longer than the buffer is written once more, into the room.
+fn lay(
     own: &mut [u8],
     room: &mut [u8],
     c: Counts,
     depth: usize,
-    sets: &[[u64; 16]; 64],
+    sets: &[[u64; 16]],
+    out: &[[u64; 16]],
     moves: &[[usize; 6]],
     move_guards: &[[u64; 16]],
     stops: &[[usize; 2]],
     stop_guards: &[[u64; 16]],
 ) -> Answer
-    ensures { λ a. ⌜ ((s : List ℕ) (r : Sheet) → readSheet s ≡ kept r → Ready c (now (moves .entry)) (now («move_guards» .entry)) (now (stops .entry)) (now («stop_guards» .entry)) (now (sets .entry)) r → Depth r depth → ReportPromise s (now (room .entry)) (now (room .exit)) a) ⌝ }
+    requires { ⌜ min 64 (length (now sets)) ≤ length (now out) ⌝ }
+    ensures { λ a. ⌜ ((s : List ℕ) (r : Sheet) → readSheet s ≡ kept r → Ready c (now (moves .entry)) (now («move_guards» .entry)) (now (stops .entry)) (now («stop_guards» .entry)) (now (sets .entry)) r → Outward c (now (moves .entry)) (now («move_guards» .entry)) (now (sets .entry)) (now (out .entry)) → Depth r depth → ReportPromise s (now (room .entry)) (now (room .exit)) a) ⌝ }
 {
-    let n = put_report(own, c, depth, sets, moves, move_guards, stops, stop_guards);
+    let n = put_report(
+        own,
+        c,
+        depth,
+        sets,
+        out,
+        moves,
+        move_guards,
+        stops,
+        stop_guards,
+    );
     if room.len() < n {
         return refuse(11, 0);
     }
@@ -267,7 +371,17 @@ fn lay_by(
         let k = text::put_bytes(room, 0, &own[0..n]);
         return Answer::Done(k);
     }
-    let k = put_report(room, c, depth, sets, moves, move_guards, stops, stop_guards);
+    let k = put_report(
+        room,
+        c,
+        depth,
+        sets,
+        out,
+        moves,
+        move_guards,
+        stops,
+        stop_guards,
+    );
     Answer::Done(k)
 }
 
@@ -292,19 +406,19 @@ fn put_report(
     room: &mut [u8],
     c: Counts,
     depth: usize,
-    sets: &[[u64; 16]; 64],
+    sets: &[[u64; 16]],
+    out: &[[u64; 16]],
     moves: &[[usize; 6]],
     move_guards: &[[u64; 16]],
     stops: &[[usize; 2]],
     stop_guards: &[[u64; 16]],
 ) -> usize
-    ensures { λ n. ⌜ ((r : Sheet) → Ready c (now (moves .entry)) (now («move_guards» .entry)) (now (stops .entry)) (now («stop_guards» .entry)) (now (sets .entry)) r → Depth r depth → (vs : List ℕ) × IsReport _≤_ r vs × Wrote (now (room .entry)) 0 vs (now (room .exit)) n) ⌝ }
+    requires { ⌜ min 64 (length (now sets)) ≤ length (now out) ⌝ }
+    ensures { λ n. ⌜ ((r : Sheet) → Ready c (now (moves .entry)) (now («move_guards» .entry)) (now (stops .entry)) (now («stop_guards» .entry)) (now (sets .entry)) r → Outward c (now (moves .entry)) (now («move_guards» .entry)) (now (sets .entry)) (now (out .entry)) → Depth r depth → (vs : List ℕ) × IsReport _≤_ r vs × Wrote (now (room .entry)) 0 vs (now (room .exit)) n) ⌝ }
 {
-    let mut out = [[0u64; 16]; 64];
-    verdicts::all_out(c.moves, moves, move_guards, &mut out);
     let a = put_moves(room, 0, c, sets, moves, move_guards);
-    let b = put_states(room, a, c, sets, &out, moves, stops, stop_guards);
-    let d = put_stops(room, b, c, sets, &out, stops, stop_guards);
+    let b = put_states(room, a, c, sets, out, moves, stops, stop_guards);
+    let d = put_stops(room, b, c, sets, out, stops, stop_guards);
     put_depth(room, d, depth)
 }
 
@@ -313,7 +427,7 @@ fn put_moves(
     room: &mut [u8],
     at: usize,
     c: Counts,
-    sets: &[[u64; 16]; 64],
+    sets: &[[u64; 16]],
     moves: &[[usize; 6]],
     move_guards: &[[u64; 16]],
 ) -> usize
@@ -333,19 +447,20 @@ fn put_moves(
     next
 }
 
-// The move of row i, judged.
-fn move_at(
-    i: usize,
-    sets: &[[u64; 16]; 64],
-    moves: &[[usize; 6]],
-    move_guards: &[[u64; 16]],
-) -> Judged
+// The move of row i, judged. A state that has no row in `sets` is reached by nobody.
+fn move_at(i: usize, sets: &[[u64; 16]], moves: &[[usize; 6]], move_guards: &[[u64; 16]]) -> Judged
     requires { ⌜ (i < length (now moves)) × (i < length (now «move_guards»)) ⌝ }
     ensures { λ j. ⌜ (j .line ≡ getD (getD (now (moves .entry)) i List.[]) 0 0) × MoveSets (getD (now (sets .entry)) (getD (getD (now (moves .entry)) i List.[]) 1 0 % 64) List.[]) (getD (now («move_guards» .entry)) i List.[]) (getD (getD (now (moves .entry)) i List.[]) 5 0) (j .verdict) ⌝ }
 {
     let row = moves[i];
     let from = row[1] % 64;
-    verdicts::judge_move(row[0], sets[from], move_guards[i], row[5])
+    if sets.len() <= from {
+        return Judged {
+            line: row[0],
+            verdict: Verdict::Dead(Found::Nothing),
+        };
+    }
+    verdicts::judge_move(row[0], &sets[from], &move_guards[i], row[5])
 }
 
 // The rows of all named states, rising: bit 0 of `named` is for the state q, and after the last named
@@ -354,13 +469,14 @@ fn put_states(
     room: &mut [u8],
     at: usize,
     c: Counts,
-    sets: &[[u64; 16]; 64],
-    out: &[[u64; 16]; 64],
+    sets: &[[u64; 16]],
+    out: &[[u64; 16]],
     moves: &[[usize; 6]],
     stops: &[[usize; 2]],
     stop_guards: &[[u64; 16]],
 ) -> usize
-    ensures { λ n. ⌜ ((g : List (List ℕ)) (r : Sheet) → Ready c (now (moves .entry)) g (now (stops .entry)) (now («stop_guards» .entry)) (now (sets .entry)) r → Outward c (now (moves .entry)) g (now (out .entry)) → (vs : List ℕ) × StateRows _≤_ r 64 vs × Wrote (now (room .entry)) at vs (now (room .exit)) n) ⌝ }
+    requires { ⌜ min 64 (length (now sets)) ≤ length (now out) ⌝ }
+    ensures { λ n. ⌜ ((g : List (List ℕ)) (r : Sheet) → Ready c (now (moves .entry)) g (now (stops .entry)) (now («stop_guards» .entry)) (now (sets .entry)) r → Outward c (now (moves .entry)) g (now (sets .entry)) (now (out .entry)) → (vs : List ℕ) × StateRows _≤_ r 64 vs × Wrote (now (room .entry)) at vs (now (room .exit)) n) ⌝ }
 {
     let leaves = verdicts::states_at(c.moves, moves, 1);
     let ends = verdicts::states_at(c.moves, moves, 4);
@@ -396,26 +512,28 @@ fn named_word(start: usize, leaves: u64, ends: u64, stopped: u64) -> u64
     leaves | ends | stopped | (1 << (start % 64))
 }
 
-// The row of the state q, which a line names.
+// The row of the state q, which a line names. A state that has no row in `sets` is reached by nobody.
 fn put_state_at(
     room: &mut [u8],
     at: usize,
     q: usize,
     c: Counts,
-    sets: &[[u64; 16]; 64],
-    out: &[[u64; 16]; 64],
+    sets: &[[u64; 16]],
+    out: &[[u64; 16]],
     leaves: u64,
     stopped: u64,
     stops: &[[usize; 2]],
     stop_guards: &[[u64; 16]],
 ) -> usize
-    requires { ⌜ q < 64 ⌝ }
-    ensures { λ n. ⌜ ((m g : List (List ℕ)) (r : Sheet) → Ready c m g (now (stops .entry)) (now («stop_guards» .entry)) (now (sets .entry)) r → Told c m g (now (stops .entry)) (now (out .entry)) leaves stopped → Named r q → (vs : List ℕ) × ((before : List ℕ) → StateRows _≤_ r q before → StateRows _≤_ r (suc q) (before ++ vs)) × Wrote (now (room .entry)) at vs (now (room .exit)) n) ⌝ }
+    requires { ⌜ (q < 64) × (min 64 (length (now sets)) ≤ length (now out)) ⌝ }
+    ensures { λ n. ⌜ ((m g : List (List ℕ)) (r : Sheet) → Ready c m g (now (stops .entry)) (now («stop_guards» .entry)) (now (sets .entry)) r → Told c m g (now (stops .entry)) (now (sets .entry)) (now (out .entry)) leaves stopped → Named r q → (vs : List ℕ) × ((before : List ℕ) → StateRows _≤_ r q before → StateRows _≤_ r (suc q) (before ++ vs)) × Wrote (now (room .entry)) at vs (now (room .exit)) n) ⌝ }
 {
-    let here = sets[q];
+    if sets.len() <= q {
+        return put_state(room, at, q, StateVerdict::Unreached, 0);
+    }
     let declared = declared_at(q, c.stops, stopped, stops, stop_guards);
-    let v = verdicts::judge_state(here, (leaves >> q) % 2 == 1, out[q], declared);
-    put_state(room, at, q, v, members::count(here))
+    let v = verdicts::judge_state(&sets[q], (leaves >> q) % 2 == 1, &out[q], &declared);
+    put_state(room, at, q, v, members::count(sets[q]))
 }
 
 // The products in which a stop line of q holds: none, if no stop line is for it.
@@ -440,12 +558,13 @@ fn put_stops(
     room: &mut [u8],
     at: usize,
     c: Counts,
-    sets: &[[u64; 16]; 64],
-    out: &[[u64; 16]; 64],
+    sets: &[[u64; 16]],
+    out: &[[u64; 16]],
     stops: &[[usize; 2]],
     stop_guards: &[[u64; 16]],
 ) -> usize
-    ensures { λ n. ⌜ ((m g : List (List ℕ)) (r : Sheet) → Ready c m g (now (stops .entry)) (now («stop_guards» .entry)) (now (sets .entry)) r → Outward c m g (now (out .entry)) → (vs : List ℕ) × StopRows _≤_ r (r .stops) vs × Wrote (now (room .entry)) at vs (now (room .exit)) n) ⌝ }
+    requires { ⌜ min 64 (length (now sets)) ≤ length (now out) ⌝ }
+    ensures { λ n. ⌜ ((m g : List (List ℕ)) (r : Sheet) → Ready c m g (now (stops .entry)) (now («stop_guards» .entry)) (now (sets .entry)) r → Outward c m g (now (sets .entry)) (now (out .entry)) → (vs : List ℕ) × StopRows _≤_ r (r .stops) vs × Wrote (now (room .entry)) at vs (now (room .exit)) n) ⌝ }
 {
     let n = counts::at_most(
         counts::at_most(counts::at_most(c.stops, 64), stops.len()),
@@ -455,10 +574,27 @@ fn put_stops(
     let mut i = 0;
     while i < n {
         let row = stops[i];
-        let state = row[1] % 64;
-        let v = verdicts::judge_stop(sets[state], stop_guards[i], out[state]);
+        let v = stop_at(i, sets, out, stops, stop_guards);
         next = put_stop(room, next, row[0], v);
         i += 1;
     }
     next
+}
+
+// The stop line of row i, judged. A state that has no row in `sets` is reached by nobody.
+fn stop_at(
+    i: usize,
+    sets: &[[u64; 16]],
+    out: &[[u64; 16]],
+    stops: &[[usize; 2]],
+    stop_guards: &[[u64; 16]],
+) -> StopVerdict
+    requires { ⌜ (i < length (now stops)) × (i < length (now «stop_guards»)) × (min 64 (length (now sets)) ≤ length (now out)) ⌝ }
+    ensures { λ v. ⌜ StopSets (getD (now (sets .entry)) (getD (getD (now (stops .entry)) i List.[]) 1 0 % 64) List.[]) (getD (now («stop_guards» .entry)) i List.[]) (getD (now (out .entry)) (getD (getD (now (stops .entry)) i List.[]) 1 0 % 64) List.[]) v ⌝ }
+{
+    let state = stops[i][1] % 64;
+    if sets.len() <= state {
+        return StopVerdict::Idle;
+    }
+    verdicts::judge_stop(sets[state], stop_guards[i], out[state])
 }

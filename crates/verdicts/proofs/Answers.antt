@@ -1,14 +1,16 @@
 -- The judges' answers, a law for each return: what a search found, said of the sets that were judged. Assumes nothing.
 use mathlib.Core.Path.{_≡_}
 use mathlib.Core.Bool.{Bool, true, false}
-use mathlib.Core.List.{List}
+use mathlib.Core.List.{List, []}
 use Prim.Native.Nat.{ℕ, _-_, _<_, _≤_, min}
 use Rattle.products.specs.declared.Found.{Found}
 use Rattle.products.specs.declared.Found.the-variants.{At, Nothing}
+use native.Mathlib.Omega.{arith}
 use Rattle.products.specs.Sets.{has, In, Least, Finds}
-use Rattle.verdicts.specs.declared.Verdict.the-variants.{False, Must, May}
-use Rattle.verdicts.specs.declared.StateVerdict.the-variants.{Hidden, Live}
-use Rattle.verdicts.specs.declared.StopVerdict.the-variants.{Untrue, True}
+use Rattle.products.proofs.Laws.{nothing-has}
+use Rattle.verdicts.specs.declared.Verdict.the-variants.{Dead, False, Must, May}
+use Rattle.verdicts.specs.declared.StateVerdict.the-variants.{Unreached, Hidden, Live}
+use Rattle.verdicts.specs.declared.StopVerdict.the-variants.{Untrue, Idle, True}
 use Rattle.verdicts.specs.Judging.{InBoth, InOnly, MoveSets, StateSets, StopSets}
 use Rattle.verdicts.proofs.Agreeing.{least-as, none-as, some-as, found-at, found-none, both-agree, left-agree, all-agree}
 
@@ -54,3 +56,18 @@ module _ {here guard : List ℕ} (s : List ℕ) (one : (p : ℕ) → p < 1024 �
 
     pub stop-untrue : {p : ℕ} → g ≡ At p → StopSets here guard out (Untrue p)
     stop-untrue d = least-as (all-agree one) (found-at _≤_ (InBoth s out) k d)
+
+-- ---- a state that nobody reaches
+
+module _ {P : ℕ → Type 0} (first : (p : ℕ) → P p → In [] p) where
+  nobody : (p : ℕ) → P p → ⊥
+  nobody p i = omega (arith, first p i .is, nothing-has p)
+
+pub none-move : (guard : List ℕ) (plain : ℕ) → MoveSets [] guard plain (Dead Nothing)
+none-move guard plain = (nobody (λ p i. i .first), nobody (λ p i. i .first))
+
+pub none-state : (leaves : Bool) (out declared : List ℕ) → StateSets [] leaves out declared Unreached
+none-state leaves out declared = nobody (λ p i. i)
+
+pub none-stop : (guard out : List ℕ) → StopSets [] guard out Idle
+none-stop guard out = nobody (λ p i. i .first)

@@ -4,6 +4,12 @@ use borrow.Author.Needs.{needs}
 use Rattle.cleaning.proofs.clean.Statement.{statement}
 use Rattle.cleaning.proofs.clean.Tie as tie
 
+clean-least-requires : tie.Need-clean-least-requires
+clean-least-requires c κs = omega arith
+
+clean-tiny-requires : tie.Need-clean-tiny-requires
+clean-tiny-requires c κs = omega arith
+
 clean-small-requires : tie.Need-clean-small-requires
 clean-small-requires c κs = omega arith
 
@@ -20,6 +26,12 @@ pub clean-spec : {M : Type 1} → statement M
 clean-spec =
     tie.close
     (tie.spec
+    clean-least-requires
+    (λ c. search needs)
+    (λ c. search needs)
+    clean-tiny-requires
+    (λ c. search needs)
+    (λ c. search needs)
     clean-small-requires
     (λ c. search needs)
     (λ c. search needs)

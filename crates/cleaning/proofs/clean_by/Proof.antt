@@ -12,8 +12,8 @@ returns c =
 
 returns-2 : tie.Need-returns-2
 returns-2 c =
-    let laid = c .before .before in
-    let known = laid .before .before .before .before .before .before in
+    let laid = c .before .before .before .before in
+    let known = laid .before .before .before .before .before .before .before in
     let read = known .before .before .before .before .before .before in
     laid .clean-read .ensures _ _ (rw (known .r .given .1) at (read .read-blank .ensures))
 
@@ -31,6 +31,7 @@ clean-by-spec =
     (λ c. search needs)
     returns
     (λ c κs. search needs)
+    (λ c. search needs)
     (λ c. search needs)
     (λ c. search needs)
     (λ c. search needs)

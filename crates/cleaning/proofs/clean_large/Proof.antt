@@ -16,6 +16,7 @@ clean-large-spec =
     (λ c. search needs)
     (λ c. search needs)
     (λ c. search needs)
+    (λ c. search needs)
     clean-by-requires
     (λ c. search needs)
     (λ c. search needs))

@@ -16,6 +16,7 @@ clean-middle-spec =
     (λ c. search needs)
     (λ c. search needs)
     (λ c. search needs)
+    (λ c. search needs)
     clean-by-requires
     (λ c. search needs)
     (λ c. search needs))

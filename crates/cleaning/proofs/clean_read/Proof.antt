@@ -1,18 +1,22 @@
--- `clean_read`: what `lay` leaves, for the sheet that was read, the states' sets and the ordered rows. Assumes nothing.
-use Rattle.cleaning.proofs.Calls.{prepared, within}
+-- `clean_read`: what the call for the sheet's states leaves; the test gives what `clean_low` asks for. Assumes nothing.
+use native.Mathlib.Omega.{arith}
 use borrow.Author.Needs.{needs}
 use Rattle.cleaning.proofs.clean_read.Statement.{statement}
 use Rattle.cleaning.proofs.clean_read.Tie as tie
 
-lay-requires : tie.Need-lay-requires
-lay-requires c κs = within _ (c .before .before .before .order-moves .ensures)
-
-returns : tie.Need-returns
-returns c = λ t h read.
-    let laid = c .before .before in
-    let ordered = laid .before .before .before .before in
-    let spread = ordered .before .before .before in
-    laid .lay .ensures t h (prepared read (spread .spread .ensures) (ordered .order-moves .ensures))
+clean-low-requires : tie.Need-clean-low-requires
+clean-low-requires c κs = omega (arith, c .before .before .before .highest .ensures, c .before .before .if1 .taken)
 
 pub clean-read-spec : {M : Type 1} → statement M
-clean-read-spec = tie.close (tie.spec (λ c κs. search needs) (λ c κs. search needs) lay-requires (λ c. search needs) returns)
+clean-read-spec =
+    tie.close
+    (tie.spec
+    (λ c κs. search needs)
+    clean-low-requires
+    (λ c. search needs)
+    (λ c. search needs)
+    (λ c. search needs)
+    (λ c κs. search needs)
+    (λ c. search needs)
+    (λ c. search needs)
+    (λ c. search needs))

@@ -1,4 +1,4 @@
--- `clean_small`: 16 and 24 rows are enough for 208 bytes. Assumes nothing.
+-- `clean_small`: 13 and 19 rows are enough for 169 bytes. Assumes nothing.
 use mathlib.Core.Path.{refl}
 use native.Mathlib.Omega.{arith}
 use borrow.Author.Needs.{needs}
@@ -12,6 +12,7 @@ pub clean-small-spec : {M : Type 1} → statement M
 clean-small-spec =
     tie.close
     (tie.spec
+    (λ c. search needs)
     (λ c. search needs)
     (λ c. search needs)
     (λ c. search needs)

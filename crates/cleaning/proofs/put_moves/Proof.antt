@@ -1,7 +1,7 @@
 -- `put_moves` meets its contract: the lines laid so far are those of the first i rows in order. The measure is the number of rows left. Assumes
 -- nothing.
-use mathlib.Core.Path.{refl}
-use Prim.Native.Nat.{_≤_, _-_, min}
+use mathlib.Core.Path.{ap}
+use Prim.Native.Nat.{ℕ, _≤_, _-_, _%_, min}
 use native.Mathlib.Omega.{arith}
 use Rattle.text.proofs.Laws.{wrote-long}
 use Rattle.cleaning.proofs.Loops.{MovesLaid, moves-none, moves-more, moves-all}
@@ -19,13 +19,25 @@ loop-holds : tie.Need-loop-holds Inv-loop μ-loop
 loop-holds c = (omega arith, moves-none (search needs))
 
 shared-slice-copy-out-row : tie.Need-shared-slice-copy-out-row Inv-loop μ-loop
-shared-slice-copy-out-row c = omega (arith, c .before .before .before .before .before .before .pre .move (c .before .before .loop .i) (omega arith))
+shared-slice-copy-out-row c =
+    let loop = c .before .before .before in
+    rw (c .number .ensures) (loop .before .before .before .before .pre .move (loop .loop .i) (omega arith))
 
 shared-slice-copy-out-put-move : tie.Need-shared-slice-copy-out-put-move Inv-loop μ-loop
-shared-slice-copy-out-put-move c = omega (arith, c .before .before .before .before .before .before .before .before .before .pre .guard (c .before .before .before .before .before .loop .i) (omega arith))
+shared-slice-copy-out-put-move c =
+    let loop = c .before .before .before .before .before in
+    rw (c .before .before .number .ensures) (loop .before .before .before .before .pre .set (loop .loop .i) (omega arith))
+
+shared-slice-copy-out-put-move-2 : tie.Need-shared-slice-copy-out-put-move-2 Inv-loop μ-loop
+shared-slice-copy-out-put-move-2 c =
+    let loop = c .before .before .before .before .before .before in
+    rw (c .before .before .before .number .ensures) (loop .before .before .before .before .pre .guard (loop .loop .i) (omega arith))
 
 loop-again : tie.Need-loop-again Inv-loop μ-loop
-loop-again c = (omega arith, moves-more (c .before .before .before .before .before .before .before .before .before .loop .inv .1) refl (c .before .before .put-move .ensures))
+loop-again c =
+    let put = c .before .before in
+    let number = put .before .before .before .before .before in
+    (omega arith, moves-more (number .before .before .before .loop .inv .1) (ap (λ (x : ℕ). x % 256) (number .number .ensures)) (put .put-move .ensures))
 
 same-length : tie.Need-same-length Inv-loop μ-loop
 same-length c = wrote-long (c .before .loop .inv .1 .laid)
@@ -42,14 +54,14 @@ put-moves-spec =
     (λ c κs. search needs)
     loop-holds
     (λ c. search needs)
-    (λ c. search needs)
+    (λ c κs. search needs)
     (λ c. search needs)
     shared-slice-copy-out-row
     (λ c. search needs)
     (λ c. search needs)
-    (λ c. search needs)
-    (λ c. search needs)
     shared-slice-copy-out-put-move
+    (λ c. search needs)
+    shared-slice-copy-out-put-move-2
     (λ c κs. search needs)
     (λ c. search needs)
     (λ c. search needs)

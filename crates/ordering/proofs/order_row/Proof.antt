@@ -1,16 +1,28 @@
 -- `order_row` meets its contract: a row that no product makes is passed over, any other is put in. Assumes nothing.
 use native.Mathlib.Omega.{arith}
-use Rattle.ordering.proofs.Turns.{row-dead, row-made, orders-pass, orders-take}
+use Rattle.ordering.proofs.Turns.{row-none, row-dead, row-made, orders-pass, orders-take}
 use borrow.Author.Needs.{needs}
 use Rattle.ordering.proofs.order_row.Statement.{statement}
 use Rattle.ordering.proofs.order_row.Tie as tie
 
 returns : tie.Need-returns
-returns c = (λ first l o. orders-pass o (row-dead _ _ _ _ _ (c .before .before .both .ensures) (c .before .is-empty .ensures .0 (c .if1 .taken))), search needs)
+returns c = (λ first l o. orders-pass o (row-none _ _ _ _ (c .if1 .taken)), search needs)
 
 returns-2 : tie.Need-returns-2
 returns-2 c = (
-  λ first l o. orders-take o (c .insert .ensures) (row-made _ _ _ _ _ (c .before .before .before .before .both .ensures) (c .before .before .before .is-empty .ensures .1 (c .before .before .if1 .left))) l (omega arith),
+  λ first l o. orders-pass o (row-dead _ _ _ _ _ (c .before .before .both .ensures) (c .before .is-empty .ensures .0 (c .if2 .taken))),
+  search needs,
+)
+
+returns-3 : tie.Need-returns-3
+returns-3 c = (
+  λ first l o.
+      orders-take
+      o
+      (c .insert .ensures)
+      (row-made _ _ _ _ _ (c .before .before .before .before .both .ensures) (c .before .before .before .is-empty .ensures .1 (c .before .before .if2 .left)))
+      l
+      (omega arith),
   search needs,
 )
 
@@ -21,13 +33,14 @@ order-row-spec =
     (λ c. search needs)
     (λ c. search needs)
     (λ c. search needs)
-    (λ c. search needs)
-    (λ c. search needs)
-    (λ c. search needs)
-    (λ c. search needs)
-    (λ c κs. search needs)
-    (λ c κs. search needs)
     returns
+    (λ c. search needs)
+    (λ c. search needs)
+    (λ c. search needs)
+    (λ c. search needs)
+    (λ c κs. search needs)
+    (λ c κs. search needs)
+    returns-2
     (λ c κs. search needs)
     (λ c. search needs)
-    returns-2)
+    returns-3)

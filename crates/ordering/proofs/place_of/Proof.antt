@@ -23,7 +23,15 @@ unfolding keyAt
 loop-again c = (
   search needs,
   search needs,
-  λ v. between-front v (c .before .before .before .before .before .loop .inv .2 v) (omega arith) (c .before .before2 .ensures ∙ ap₂ lessBytes (c .before .before .before .before .before .before .row-at .ensures _) (c .before .before .row-at2 .ensures _)) (c .if1 .taken),
+  λ v.
+      between-front
+      v
+      (c .before .before .before .before .before .before .loop .inv .2 v)
+      (omega arith)
+      (c .before .before .before .number .ensures)
+      (c .before .before2 .ensures
+      ∙ ap₂ lessBytes (c .before .before .before .before .before .before .before .row-at .ensures _) (c .before .before .row-at2 .ensures _))
+      (c .if1 .taken),
 )
 
 loop-again-2 : tie.Need-loop-again-2 Inv-loop μ-loop
@@ -31,7 +39,15 @@ unfolding keyAt
 loop-again-2 c = (
   search needs,
   search needs,
-  λ v. between-back v (c .before .before .before .before .before .loop .inv .2 v) (omega arith) (c .before .before2 .ensures ∙ ap₂ lessBytes (c .before .before .before .before .before .before .row-at .ensures _) (c .before .before .row-at2 .ensures _)) (c .if1 .left),
+  λ v.
+      between-back
+      v
+      (c .before .before .before .before .before .before .loop .inv .2 v)
+      (omega arith)
+      (c .before .before .before .number .ensures)
+      (c .before .before2 .ensures
+      ∙ ap₂ lessBytes (c .before .before .before .before .before .before .before .row-at .ensures _) (c .before .before .row-at2 .ensures _))
+      (c .if1 .left),
 )
 
 returns : tie.Need-returns Inv-loop μ-loop
@@ -48,7 +64,7 @@ place-of-spec =
     (λ c. search needs)
     (λ c. search needs)
     (λ c. search needs)
-    (λ c. search needs)
+    (λ c κs. search needs)
     (λ c κs. search needs)
     (λ c κs. search needs)
     (λ c. search needs)

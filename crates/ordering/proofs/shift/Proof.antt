@@ -30,14 +30,12 @@ shift-spec =
     (tie.spec
     Inv-loop
     μ-loop
+    (λ c. search needs)
     loop-holds
     (λ c. search needs)
     (λ c. search needs)
     (λ c. search needs)
     (λ c. search needs)
-    (λ c. search needs)
-    (λ c. search needs)
     loop-again
-    (λ c. search needs)
     (λ c. search needs)
     returns)

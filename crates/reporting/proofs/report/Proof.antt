@@ -4,22 +4,34 @@ use native.Mathlib.Omega.{arith}
 use Rattle.reporting.proofs.report.Statement.{statement}
 use Rattle.reporting.proofs.report.Tie as tie
 
+report-least-requires : tie.Need-report-least-requires
+report-least-requires c κs = omega (arith, c .before .if1 .taken)
+
+report-tiny-requires : tie.Need-report-tiny-requires
+report-tiny-requires c κs = omega (arith, c .before .if2 .taken)
+
 report-small-requires : tie.Need-report-small-requires
-report-small-requires c κs = omega (arith, c .before .if1 .taken)
+report-small-requires c κs = omega (arith, c .before .if3 .taken)
 
 report-short-requires : tie.Need-report-short-requires
-report-short-requires c κs = omega (arith, c .before .if2 .taken)
+report-short-requires c κs = omega (arith, c .before .if4 .taken)
 
 report-middle-requires : tie.Need-report-middle-requires
-report-middle-requires c κs = omega (arith, c .before .if3 .taken)
+report-middle-requires c κs = omega (arith, c .before .if5 .taken)
 
 report-long-requires : tie.Need-report-long-requires
-report-long-requires c κs = omega (arith, c .before .if4 .taken)
+report-long-requires c κs = omega (arith, c .before .if6 .taken)
 
 pub report-spec : {M : Type 1} → statement M
 report-spec =
     tie.close
     (tie.spec
+    report-least-requires
+    (λ c. search needs)
+    (λ c. search needs)
+    report-tiny-requires
+    (λ c. search needs)
+    (λ c. search needs)
     report-small-requires
     (λ c. search needs)
     (λ c. search needs)

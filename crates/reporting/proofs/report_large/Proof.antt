@@ -5,14 +5,13 @@ use Rattle.reporting.proofs.report_large.Statement.{statement}
 use Rattle.reporting.proofs.report_large.Tie as tie
 
 report-by-requires : tie.Need-report-by-requires
-report-by-requires c κs =
-    let start = c .before .before .before .before .before .before .before in
-    (lent-blank 256 64, enough-any (start .args .text .now))
+report-by-requires c κs = (lent-blank 256 64, enough-any (c .before .before .before .before .before .before .before .before .args .text .now))
 
 pub report-large-spec : {M : Type 1} → statement M
 report-large-spec =
     tie.close
     (tie.spec
+    (λ c. search needs)
     (λ c. search needs)
     (λ c. search needs)
     (λ c. search needs)

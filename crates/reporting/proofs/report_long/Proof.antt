@@ -5,14 +5,13 @@ use Rattle.reporting.proofs.report_long.Statement.{statement}
 use Rattle.reporting.proofs.report_long.Tie as tie
 
 report-by-requires : tie.Need-report-by-requires
-report-by-requires c κs =
-    let start = c .before .before .before .before .before .before .before in
-    (lent-blank 144 64, enough-long (start .args .text .now) (start .pre))
+report-by-requires c κs = (lent-blank 144 64, enough-long (c .before .before .before .before .before .before .before .before .args .text .now) (c .before .before .before .before .before .before .before .before .pre))
 
 pub report-long-spec : {M : Type 1} → statement M
 report-long-spec =
     tie.close
     (tie.spec
+    (λ c. search needs)
     (λ c. search needs)
     (λ c. search needs)
     (λ c. search needs)

@@ -5,14 +5,13 @@ use Rattle.reporting.proofs.report_middle.Statement.{statement}
 use Rattle.reporting.proofs.report_middle.Tie as tie
 
 report-by-requires : tie.Need-report-by-requires
-report-by-requires c κs =
-    let start = c .before .before .before .before .before .before .before in
-    (lent-blank 90 64, enough-middle (start .args .text .now) (start .pre))
+report-by-requires c κs = (lent-blank 90 64, enough-middle (c .before .before .before .before .before .before .before .before .args .text .now) (c .before .before .before .before .before .before .before .before .pre))
 
 pub report-middle-spec : {M : Type 1} → statement M
 report-middle-spec =
     tie.close
     (tie.spec
+    (λ c. search needs)
     (λ c. search needs)
     (λ c. search needs)
     (λ c. search needs)

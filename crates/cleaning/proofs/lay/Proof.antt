@@ -1,9 +1,9 @@
--- `lay_by`: refused by 11, with the room as it was, by what the first run tells; copied from that run's buffer; or made once more. Assumes nothing.
+-- `lay`: refused by 11, with the room as it was, by what the first run tells; copied from that run's buffer; or made once more. Assumes nothing.
 use Rattle.cleaning.proofs.Calls.{too-long, copied, again}
 use borrow.Author.Needs.{needs}
 use native.Mathlib.Omega.{arith}
-use Rattle.cleaning.proofs.lay_by.Statement.{statement}
-use Rattle.cleaning.proofs.lay_by.Tie as tie
+use Rattle.cleaning.proofs.lay.Statement.{statement}
+use Rattle.cleaning.proofs.lay.Tie as tie
 
 put-clean-requires : tie.Need-put-clean-requires
 put-clean-requires c κs = c .before .before .before .before .pre
@@ -35,8 +35,8 @@ returns-3 c = λ t h p.
     let run = most .before .before .before in
     again p (run .put-clean .ensures t h) (once-more .put-clean2 .ensures t h) (omega (arith, most .at-most .ensures, test .if1 .left))
 
-pub lay-by-spec : {M : Type 1} → statement M
-lay-by-spec =
+pub lay-spec : {M : Type 1} → statement M
+lay-spec =
     tie.close
     (tie.spec
     put-clean-requires

@@ -1,0 +1,90 @@
+-- `put_stops_by` meets its contract: the lines laid so far are those of the states below q, and the marks left are those from q on. The measure is the
+-- number of states left. Assumes nothing.
+use mathlib.Core.Logic.{⊎-elim}
+use mathlib.Core.Path.{_≡_}
+use Prim.Native.Nat.{_≤_, _<_, _-_, _/_, _^_, min}
+use native.Mathlib.Omega.{arith}
+use mir.Val.{Fits}
+use mir.Syntax.{w64}
+use lib.ListN.{length}
+use Rattle.text.proofs.Laws.{wrote-long}
+use Rattle.cleaning.proofs.Loops.{all-outs, StopsLaid, stops-none, stops-more, stops-pass, stops-all}
+use Rattle.cleaning.proofs.Loops.{marks-rows, left-state, left-next, left-even, left-none}
+use borrow.Author.Needs.{needs}
+use Rattle.cleaning.proofs.put_stops_by.Statement.{statement}
+use Rattle.cleaning.proofs.put_stops_by.Tie as tie
+
+abbrev Inv-loop : tie.InvT-loop
+Inv-loop room₀ at text names features count moves guards sets out rows leaves next₀ left₀ q₀ room next left q =
+    (q ≤ 64) × (left ≡ leaves / 2 ^ q) × StopsLaid text names moves guards sets (min features 10) (min (min (min count 256) (length moves)) (length guards)) room₀ at q room next
+
+abbrev μ-loop : tie.MeasureT-loop
+μ-loop room₀ at text names features count moves guards sets out rows leaves next₀ left₀ q₀ room next left q = 64 - q
+
+loop-holds : tie.Need-loop-holds Inv-loop μ-loop
+loop-holds c = (omega arith, omega arith, stops-none (search needs))
+
+low : (c : tie.In-loop Inv-loop μ-loop) → c .before .loop .q < 64
+low c =
+    let fits : Fits w64 (c .before .before .states-at .result) = search needs in
+    left-state _ _ (c .before .loop .inv .1) (fits .fits) (c .before .loop .inv .0) (c .loop-test .taken)
+
+put-stop-at-requires : tie.Need-put-stop-at-requires Inv-loop μ-loop
+put-stop-at-requires c κs =
+    let table = c .before .before .before .before .before .before .before .before in
+    (low (c .before .before .before), omega (arith, table .all-out .ensures .0, table .before .before .before .before .pre .1))
+
+add-q : tie.Need-add-q Inv-loop μ-loop
+add-q c = record { fits = omega (arith, low (c .before)) }
+
+loop-less : tie.Need-loop-less Inv-loop μ-loop
+loop-less c = omega (arith, low (c .before))
+
+loop-again : tie.Need-loop-again Inv-loop μ-loop
+loop-again c =
+    let l = low (c .before) in
+    let loop = c .before .before in
+    let (few, left, laid) = loop .loop .inv in
+    let table = loop .before .before .before .before in
+    let start = table .before .before .before .before in
+    let out = all-outs _ _ (start .args .sets .now) _ _ (start .pre .0) (start .pre .1) (table .all-out .ensures .1) _ l in
+    let marks = marks-rows _ (start .args .guards .now) _ _ (loop .before .before .at-most .ensures) (loop .before .states-at .ensures) in (
+      omega arith,
+      left-next _ _ left,
+      ⊎-elim (λ w. rw (w .6, w .7) (stops-more laid _ out (w .3 .ensures)))
+          (λ w. rw (w .1, w .2) (stops-pass laid _ out (left-even _ _ left _ _ marks l (w .0 .left)))) (c .if1 .came),
+    )
+
+same-length : tie.Need-same-length Inv-loop μ-loop
+same-length c = wrote-long (c .before .loop .inv .2 .laid)
+
+same-length-2 : tie.Need-same-length-2 Inv-loop μ-loop
+same-length-2 c = c .before .before .before .before .before .all-out .ensures .0
+
+returns : tie.Need-returns Inv-loop μ-loop
+returns c =
+    let loop = c .before in
+    let (few, left, laid) = loop .loop .inv in
+    let table = loop .before .before .before .before in
+    let start = table .before .before .before .before in
+    let marks = marks-rows _ (start .args .guards .now) _ _ (loop .before .before .at-most .ensures) (loop .before .states-at .ensures) in
+    let out = all-outs _ _ (start .args .sets .now) _ _ (start .pre .0) (start .pre .1) (table .all-out .ensures .1) in
+    stops-all laid _ out few (left-none _ _ left _ _ marks (c .loop-test .left))
+
+pub put-stops-by-spec : {M : Type 1} → statement M
+put-stops-by-spec =
+    tie.close
+    (tie.spec
+    Inv-loop
+    μ-loop
+    (λ c κs. search needs)
+    (λ c κs. search needs)
+    (λ c κs. search needs)
+    loop-holds
+    put-stop-at-requires
+    add-q
+    loop-less
+    loop-again
+    same-length
+    same-length-2
+    returns)
