@@ -3,13 +3,12 @@
 use mathlib.Core.Path.{_≡_, refl, sym, ap, _∙_}
 use mathlib.Core.List.{List, [], _++_}
 use mathlib.Core.Logic.{_⊎_, inr}
-use Prim.Native.Nat.{ℕ, _-_, _*_, _%_, _≤_, _<_, min}
+use Prim.Native.Nat.{ℕ, _-_, _*_, _%_, _≤_, _<_, min, max}
 use native.Mathlib.Omega.{arith}
 use lib.ListN.{length, getD, take, drop, replicate, length-replicate}
 use Rattle.text.specs.Text.{limit, Wrote}
 use Rattle.text.proofs.Laws.{wrote-then, wrote-long, wrote-text, wrote-whole, wrote-end, dry-fits, dry-too-long}
 use Rattle.products.specs.Sets.{has, In}
-use Rattle.products.proofs.Laws.{has-row}
 use Rattle.sheet.specs.declared.Counts.{Counts}
 use Rattle.sheet.specs.Sheet.{Sheet}
 use Rattle.sheet.specs.Reading.{kept, refused, readSheet}
@@ -19,6 +18,7 @@ use Rattle.family.specs.Ways.{Depth}
 use Rattle.family.specs.Rounds.{stepAt, Spread}
 use Rattle.family.proofs.Meaning.{spread-reaches, spread-depth}
 use Rattle.verdicts.specs.Judging.{guardsAt}
+use Rattle.verdicts.proofs.Gathered.{out-reached}
 use Rattle.reporting.specs.Report.{depthRow, MoveRows, StateRows, StopRows, IsReport}
 use Rattle.reporting.specs.Promise.{TooLong, Reported, Ready}
 use Rattle.reporting.proofs.Determined.{report-determined}
@@ -38,10 +38,12 @@ whole-report {depth = depth} (x, xs, u) (y, ys, v) (z, zs, w) deep t = (
 )
 
 -- the rows that are there tell of every state that has a set what the guards of all moves give
-pub is-outward : {c : Counts} {m g t h sets : List (List ℕ)} {r : Sheet} (rows : ℕ) (at : ℕ → List ℕ) → Ready c m g t h sets r → min 64 (length sets) ≤ rows
-    → ((q : ℕ) → q < rows → (p : ℕ) → p < 1024 → has (at q) p ≡ guardsAt m g q p (min (min (min (c .moves) 256) (length m)) (length g)))
+pub is-outward : {c : Counts} {m g t h sets : List (List ℕ)} {r : Sheet} (at : ℕ → List ℕ) {old : List (List ℕ)} → Ready c m g t h sets r
+    → old ≡ replicate (length old) (replicate 16 0) → min 64 (length sets) ≤ length old
+    → ((q : ℕ) → q < length old → (p : ℕ) → p < 1024
+    → has (at q) p ≡ max (has (getD old q []) p) (guardsAt m g q p (min (min (min (c .moves) 256) (length m)) (length g))))
     → (q : ℕ) → q < 64 → (p : ℕ) → In (getD sets q []) p → has (at q) p ≡ guardsAt m g q p (min (c .moves) 256)
-is-outward {m = m} {g = g} {sets = sets} rows at w l f q lq p i = let k = has-row sets q i in f q (omega arith) p (i .small) ∙ ap (guardsAt m g q p) (guarded-moves w)
+is-outward {m = m} {g = g} {sets = sets} at w e l f q lq p i = out-reached m g sets _ at e l f q lq p i ∙ ap (guardsAt m g q p) (guarded-moves w)
 
 -- ---- the tables that `report` lends
 

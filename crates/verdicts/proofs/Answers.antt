@@ -9,7 +9,7 @@ use native.Mathlib.Omega.{arith}
 use Rattle.products.specs.Sets.{has, In, Least, Finds}
 use Rattle.products.proofs.Laws.{nothing-has}
 use Rattle.verdicts.specs.declared.Verdict.the-variants.{Dead, False, Must, May}
-use Rattle.verdicts.specs.declared.StateVerdict.the-variants.{Unreached, Hidden, Live}
+use Rattle.verdicts.specs.declared.StateVerdict.the-variants.{Hidden, Live}
 use Rattle.verdicts.specs.declared.StopVerdict.the-variants.{Untrue, Idle, True}
 use Rattle.verdicts.specs.Judging.{InBoth, InOnly, MoveSets, StateSets, StopSets}
 use Rattle.verdicts.proofs.Agreeing.{least-as, none-as, some-as, found-at, found-none, both-agree, left-agree, all-agree}
@@ -65,9 +65,6 @@ module _ {P : ℕ → Type 0} (first : (p : ℕ) → P p → In [] p) where
 
 pub none-move : (guard : List ℕ) (plain : ℕ) → MoveSets [] guard plain (Dead Nothing)
 none-move guard plain = (nobody (λ p i. i .first), nobody (λ p i. i .first))
-
-pub none-state : (leaves : Bool) (out declared : List ℕ) → StateSets [] leaves out declared Unreached
-none-state leaves out declared = nobody (λ p i. i)
 
 pub none-stop : (guard out : List ℕ) → StopSets [] guard out Idle
 none-stop guard out = nobody (λ p i. i .first)

@@ -8,7 +8,8 @@ use mir.Val.{Fits}
 use mir.Syntax.{w64}
 use lib.ListN.{length}
 use Rattle.text.proofs.Laws.{wrote-long}
-use Rattle.cleaning.proofs.Loops.{all-outs, StopsLaid, stops-none, stops-more, stops-pass, stops-all}
+use Rattle.verdicts.proofs.Gathered.{out-reached}
+use Rattle.cleaning.proofs.Loops.{StopsLaid, stops-none, stops-more, stops-pass, stops-all}
 use Rattle.cleaning.proofs.Loops.{marks-rows, left-state, left-next, left-even, left-none}
 use borrow.Author.Needs.{needs}
 use Rattle.cleaning.proofs.put_stops_by.Statement.{statement}
@@ -47,7 +48,7 @@ loop-again c =
     let (few, left, laid) = loop .loop .inv in
     let table = loop .before .before .before .before in
     let start = table .before .before .before .before in
-    let out = all-outs _ _ (start .args .sets .now) _ _ (start .pre .0) (start .pre .1) (table .all-out .ensures .1) _ l in
+    let out = out-reached _ _ (start .args .sets .now) _ _ (start .pre .0) (start .pre .1) (table .all-out .ensures .1) _ l in
     let marks = marks-rows _ (start .args .guards .now) _ _ (loop .before .before .at-most .ensures) (loop .before .states-at .ensures) in (
       omega arith,
       left-next _ _ left,
@@ -68,7 +69,7 @@ returns c =
     let table = loop .before .before .before .before in
     let start = table .before .before .before .before in
     let marks = marks-rows _ (start .args .guards .now) _ _ (loop .before .before .at-most .ensures) (loop .before .states-at .ensures) in
-    let out = all-outs _ _ (start .args .sets .now) _ _ (start .pre .0) (start .pre .1) (table .all-out .ensures .1) in
+    let out = out-reached _ _ (start .args .sets .now) _ _ (start .pre .0) (start .pre .1) (table .all-out .ensures .1) in
     stops-all laid _ out few (left-none _ _ left _ _ marks (c .loop-test .left))
 
 pub put-stops-by-spec : {M : Type 1} → statement M

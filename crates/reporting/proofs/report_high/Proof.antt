@@ -2,7 +2,6 @@
 use mathlib.Core.Path.{refl, sym}
 use native.Mathlib.Omega.{arith}
 use lib.ListN.{replicate}
-use Rattle.verdicts.proofs.Gathered.{out-of-blank}
 use Rattle.reporting.proofs.Calls.{is-ready, is-depth, is-outward}
 use borrow.Author.Needs.{needs}
 use Rattle.reporting.proofs.report_high.Statement.{statement}
@@ -21,7 +20,7 @@ lay-requires : tie.Need-lay-requires
 lay-requires c κs = omega (arith, c .before .before .before .before .before .before .before .spread .ensures .0, c .before .before .before .before .before .all-out .ensures .0)
 
 returns : tie.Need-returns
-returns c = λ s n read. let ready = is-ready read (c .before .before .before .before .before .before .before .before .before .before .before .before .spread .ensures .1) in c .before .before .before .before .lay .ensures _ (read .0) (read .1) ready (is-outward _ _ ready (omega (arith, c .before .before .before .before .before .before .before .before .before .before .before .before .spread .ensures .0)) (out-of-blank _ _ _ _ {old = replicate 64 (replicate 16 0)} refl (c .before .before .before .before .before .before .before .before .before .before .all-out .ensures .1))) (is-depth read (c .before .before .before .before .before .before .before .before .before .before .before .before .spread .ensures .1))
+returns c = λ s n read. let ready = is-ready read (c .before .before .before .before .before .before .before .before .before .before .before .before .spread .ensures .1) in c .before .before .before .before .lay .ensures _ (read .0) (read .1) ready (is-outward _ {old = replicate 64 (replicate 16 0)} ready refl (omega (arith, c .before .before .before .before .before .before .before .before .before .before .before .before .spread .ensures .0)) (c .before .before .before .before .before .before .before .before .before .before .all-out .ensures .1)) (is-depth read (c .before .before .before .before .before .before .before .before .before .before .before .before .spread .ensures .1))
 
 pub report-high-spec : {M : Type 1} → statement M
 report-high-spec =
