@@ -59,10 +59,16 @@ const LONG_TEXT: usize = 1872;
 const LOW: usize = 8;
 
 // Lays the clean form of the sheet `text` into `room`, by way of a buffer and tables whose sizes go by
-// the text's length.
+// the text's length. What that length alone refuses needs no tables.
 pub fn clean(text: &[u8], room: &mut [u8]) -> Answer
     ensures { λ r. ⌜ CleanPromise (now (text .entry)) (now (room .entry)) (now (room .exit)) r ⌝ }
 {
+    if MOST_BYTES < text.len() {
+        return refuse(1, 0);
+    }
+    if text.len() == 0 {
+        return refuse(2, 0);
+    }
     if text.len() <= LEAST_TEXT {
         return clean_least(text, room);
     }
@@ -481,8 +487,8 @@ fn put_moves(
             names,
             features,
             row,
-            sets[from],
-            guards[k],
+            &sets[from],
+            &guards[k],
         );
         i += 1;
     }
@@ -603,5 +609,5 @@ fn put_stop_at(
     if sets.len() <= q {
         return at;
     }
-    put_stop(room, at, text, names, features, q, sets[q], out[q])
+    put_stop(room, at, text, names, features, q, &sets[q], &out[q])
 }

@@ -1,4 +1,4 @@
--- What `is_empty` promises determines its answer. Assumes nothing.
+-- What `is_empty`, `meets` and `exceeds` promise determines their answers. Assumes nothing.
 use mathlib.Core.Path.{_≡_}
 use mathlib.Core.Bool.{Bool, true, false}
 use mathlib.Core.List.{List}
@@ -6,6 +6,12 @@ use Prim.Native.Nat.{ℕ}
 use Rattle.products.specs.Sets.{In}
 use Rattle.products.proofs.Determined.{told-determined}
 
+-- of `is_empty`
 pub empty-determined : (s : List ℕ) (r r′ : Bool) → (r ≡ true → (q : ℕ) → In s q → ⊥) × (r ≡ false → (q : ℕ) × In s q)
     → (r′ ≡ true → (q : ℕ) → In s q → ⊥) × (r′ ≡ false → (q : ℕ) × In s q) → r ≡ r′
 empty-determined s = told-determined (λ none some. none (some .0) (some .1))
+
+-- of `meets` and `exceeds`, and of any other answer whether some product has a property P
+pub some-determined : (P : ℕ → Type 0) (r r′ : Bool) → (r ≡ true → (q : ℕ) × P q) × (r ≡ false → (q : ℕ) → P q → ⊥)
+    → (r′ ≡ true → (q : ℕ) × P q) × (r′ ≡ false → (q : ℕ) → P q → ⊥) → r ≡ r′
+some-determined P = told-determined (λ some none. none (some .0) (some .1))

@@ -1,8 +1,10 @@
--- The search for the smallest product: what is known of the places that it passed, how that grows by a bit or by a word, and what it says
--- where the search ends. Assumes nothing.
+-- The search for a product, the smallest or any: what is known of the places that it passed, how that grows by a bit or by a word, and what
+-- it says where the search ends. Assumes nothing.
 use mathlib.Core.Path.{_≡_, sym, _∙_}
 use mathlib.Core.List.{List}
-use Prim.Native.Nat.{ℕ, zero, suc, _+_, _*_, _<_, _≤_}
+use mathlib.Core.Logic.{⊎-elim}
+use Prim.Native.Nat.{ℕ, zero, suc, _+_, _*_, _/_, _%_, _^_, _<_, _≤_}
+use native.Mathlib.Nat.{eq-or-lt-of-le, pow-suc}
 use native.Mathlib.Omega.{arith}
 use native.Mathlib.Numerals.{add-one}
 use borrow.Author.Count.{below-more}
@@ -10,8 +12,18 @@ use lib.ListN.{getD}
 use Rattle.products.specs.declared.Found.{Found}
 use Rattle.products.specs.declared.Found.the-variants.{At, Nothing}
 use Rattle.products.specs.Sets.{bit, has, In, Picked, InBoth, Least, Finds}
-use Rattle.products.proofs.Bits.{zero-bit}
+use Rattle.products.proofs.Bits.{bit-suc, zero-bit}
 use Rattle.products.proofs.Laws.{has-at}
+
+-- a word that is not 0 has a bit
+some-bit : (n x : ℕ) → x < 2 ^ n → (x ≡ 0 → ⊥) → (k : ℕ) × (k < n) × (bit x k ≡ 1)
+some-bit zero x lx ne = absurd (omega arith)
+some-bit (suc n) x lx ne =
+    let le : x % 2 ≤ 1 = omega arith in
+    ⊎-elim
+    (λ e. (0, omega arith, omega arith))
+    (λ lt. let h = some-bit n (x / 2) (omega (arith, pow-suc 2 n)) (omega arith) in (suc (h .0), omega (arith, h .1), bit-suc x (h .0) ∙ h .2))
+    (eq-or-lt-of-le le)
 
 -- no product before bit k of word w is picked
 pub record Passed (y : ℕ) (a b : List ℕ) (w k : ℕ) : Type 0 where
@@ -36,13 +48,22 @@ module _ {y : ℕ} {a b : List ℕ} {w : ℕ} where
               (λ i. ne (on k .1 (sym (has-at a w k lt) ∙ i .first .is) (sym (has-at b w k lt) ∙ i .second))) q (omega arith);
         }
 
-    -- a bit that is 1 is the smallest product
+    -- a bit that is 1 is a product
+    picked-at : {k : ℕ} → w < 16 → k < 64 → bit x k ≡ 1 → Picked y a b (w * 64 + k)
+    picked-at {k} lw lk e =
+        record { first = record { small = omega arith; is = has-at a w k lk ∙ on k .0 e .0 }; second = has-at b w k lk ∙ on k .0 e .1 }
+
+    -- the first such is the smallest product
     pub least-at : {k : ℕ} → Passed y a b w k → w < 16 → k < 64 → bit x k ≡ 1 → Least _≤_ (Picked y a b) (w * 64 + k)
     least-at {k} h lw lk e =
         record {
-          is = record { first = record { small = omega arith; is = has-at a w k lk ∙ on k .0 e .0 }; second = has-at b w k lk ∙ on k .0 e .1 };
+          is = picked-at lw lk e;
           first = λ q i. let past : q < w * 64 + k → ⊥ = λ lt. h .none q lt i in omega arith;
         }
+
+    -- a word that is not 0 has a product
+    pub some-at : w < 16 → x < 2 ^ 64 → (x ≡ 0 → ⊥) → (q : ℕ) × Picked y a b q
+    some-at lw lx ne = let h = some-bit 64 x lx ne in (w * 64 + h .0, picked-at lw (h .1) (h .2))
 
     -- a word that is 0
     pub passed-word : Passed y a b w 0 → x ≡ 0 → Passed y a b (w + 1) 0

@@ -1,4 +1,5 @@
-// What a set of products has: whether it has one, how many, which is the least, and whether two sets are the same.
+// What a set of products has: whether it has one, how many, which is the least; whether two sets are the
+// same, share a product, or the first has one that the second has not.
 ghost use mathlib.Core.Path.{_≡_};
 ghost use mathlib.Core.Bool.{true, false, not};
 ghost use Prim.Native.Nat.{ℕ, _+_, _*_, _<_, _≤_};
@@ -76,6 +77,34 @@ fn search(a: &[u64; 16], b: &[u64; 16], out: bool) -> Found
         }
         w += 1;
     }
+}
+
+// Whether a and b share a product.
+pub fn meets(a: &[u64; 16], b: &[u64; 16]) -> bool
+    ensures { λ r. ⌜ (r ≡ true → (q : ℕ) × InBoth (now (a .entry)) (now (b .entry)) q) × (r ≡ false → (q : ℕ) → InBoth (now (a .entry)) (now (b .entry)) q → ⊥) ⌝ }
+{
+    any(a, b, false)
+}
+
+// Whether a has a product that b has not.
+pub fn exceeds(a: &[u64; 16], b: &[u64; 16]) -> bool
+    ensures { λ r. ⌜ (r ≡ true → (q : ℕ) × InOnly (now (a .entry)) (now (b .entry)) q) × (r ≡ false → (q : ℕ) → InOnly (now (a .entry)) (now (b .entry)) q → ⊥) ⌝ }
+{
+    any(a, b, true)
+}
+
+// Whether a has a product that b has, or has not if `out`. The first word that holds one tells.
+fn any(a: &[u64; 16], b: &[u64; 16], out: bool) -> bool
+    ensures { λ r. ⌜ (r ≡ true → (q : ℕ) × Picked (oneIf (not out)) (now (a .entry)) (now (b .entry)) q) × (r ≡ false → (q : ℕ) → Picked (oneIf (not out)) (now (a .entry)) (now (b .entry)) q → ⊥) ⌝ }
+{
+    let mut w = 0;
+    while w < 16 {
+        if picked(a[w], b[w], out) != 0 {
+            return true;
+        }
+        w += 1;
+    }
+    false
 }
 
 // The bits of a that b has, or has not if `out`.

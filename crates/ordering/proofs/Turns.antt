@@ -1,35 +1,31 @@
 -- Row after row: a row that no product makes is passed over, and any other is put in its place among those before it. Assumes nothing.
 use mathlib.Core.Path.{_≡_, refl, sym, ap, _∙_}
 use mathlib.Core.List.{List, [], _++_}
-use Prim.Native.Nat.{ℕ, _+_, _%_, _≤_, _<_, min}
+use Prim.Native.Nat.{ℕ, _+_, _%_, _≤_, _<_}
 use native.Mathlib.Numerals.{add-one}
 use native.Mathlib.Omega.{arith}
 use lib.ListN.{length, getD, take, drop, length-append, length-drop}
 use lib.Seq.{take-at, drop-append-add, drop-drop}
-use Rattle.products.specs.Sets.{has, In}
-use Rattle.products.proofs.Laws.{has-le, has-row}
+use Rattle.products.specs.Sets.{InBoth}
+use Rattle.products.proofs.Laws.{has-row}
 use Rattle.ordering.specs.Ordering.{MadeRow, insertBy, none, takes, passes, Orders}
 use Rattle.ordering.specs.Halving.{Level}
 use Rattle.ordering.proofs.Laws.{insert-length, orders-few, orders-level}
 
 -- ---- whether some product makes the row's move
 
--- nothing reaches a source that has no set
-pub row-none : (t guards sets : List (List ℕ)) (i : ℕ) → length sets ≤ getD (getD t i []) 1 0 % 64 → MadeRow t guards sets i → ⊥
-row-none t guards sets i h m = omega (arith, has-row sets (getD (getD t i []) 1 0 % 64) (record { small = m .small; is = m .reached }))
+module _ (t guards sets : List (List ℕ)) (i : ℕ) where
+  -- nothing reaches a source that has no set
+  pub row-none : length sets ≤ getD (getD t i []) 1 0 % 64 → MadeRow t guards sets i → ⊥
+  row-none h m = omega (arith, has-row sets (getD (getD t i []) 1 0 % 64) (record { small = m .small; is = m .reached }))
 
-module _ (t guards sets : List (List ℕ)) (i : ℕ) (w : List ℕ)
-    (both : (p : ℕ) → p < 1024 → has w p ≡ min (has (getD sets (getD (getD t i []) 1 0 % 64) []) p) (has (getD guards i []) p)) where
-  pub row-dead : ((p : ℕ) → In w p → ⊥) → MadeRow t guards sets i → ⊥
-  row-dead empty m = empty (m .product) (record { small = m .small; is = omega (arith, both (m .product) (m .small), m .reached, m .held) })
+  -- the move's source and its guard share no product
+  pub row-dead : ((p : ℕ) → InBoth (getD sets (getD (getD t i []) 1 0 % 64) []) (getD guards i []) p → ⊥) → MadeRow t guards sets i → ⊥
+  row-dead apart m = apart (m .product) (record { first = record { small = m .small; is = m .reached }; second = m .held })
 
-  pub row-made : (p : ℕ) × In w p → MadeRow t guards sets i
-  row-made (p, m) =
-      let q = both p (m .small) in
-      let h = m .is in
-      let a = has-le (getD sets (getD (getD t i []) 1 0 % 64) []) p in
-      let b = has-le (getD guards i []) p in
-      record { product = p; small = m .small; reached = omega arith; held = omega arith }
+  -- they share one
+  pub row-made : (p : ℕ) × InBoth (getD sets (getD (getD t i []) 1 0 % 64) []) (getD guards i []) p → MadeRow t guards sets i
+  row-made (p, m) = record { product = p; small = m .first .small; reached = m .first .is; held = m .second }
 
 -- ---- one row more
 

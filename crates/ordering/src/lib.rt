@@ -57,7 +57,7 @@ fn order_row(
     if sets.len() <= from {
         return kept;
     }
-    if members::is_empty(products::both(sets[from], guards[i])) {
+    if !members::meets(&sets[from], &guards[i]) {
         return kept;
     }
     insert(text, moves, order, kept, i);

@@ -5,13 +5,13 @@ use mathlib.Core.Bool.{Bool, true, false, _&&_}
 use Prim.Native.Nat.{ℕ, zero, suc, _+_, _-_, _*_, _/_, _%_, _^_, _<_, _≤_, min, max}
 use native.Mathlib.Omega.{arith}
 use native.Mathlib.Numerals.{add-one}
-use native.Mathlib.Nat.{zero-div, div-eq-of-lt, pow-suc, div-add-mod', mod-lt}
+use native.Mathlib.Nat.{zero-div, div-eq-of-lt, pow-suc}
 use borrow.Author.Count.{below-none, below-more}
 use borrow.Author.Tests.{lt-ltb, le-ltb}
 use lib.Bits.{bitAnd, bitOr, bitXor, and-shr, or-shr, xor-shr, and-step, or-step, xor-add-and}
 use lib.Count.{ones, ones-step, ones-le}
 use lib.Dec.{T, eqb, ltb, eqb→eq}
-use lib.Pow.{pow-add, pow-mono, pow-pos, shr-shr}
+use lib.Pow.{pow-mono, shr-shr}
 use Rattle.products.specs.Sets.{bit, oneIf}
 
 -- ---- what the operations on words do to each bit
@@ -108,45 +108,19 @@ low-bits w k =
     below-more P 5 (below-more P 4 (below-more P 3 (below-more P 2 (below-more P 1 (below-more P 0 (below-none P)
     (omega arith)) (omega arith)) (omega arith)) (omega arith)) (omega arith)) (omega arith)
 
--- ---- word w of all products of n features: one law for each answer
+-- ---- the words of all products of n features
 
 -- a first word has the numbers below 2 ^ m
 pub first-bit : (x m : ℕ) {n : ℕ} → T (passes (λ k. eqb (bit x k) (oneIf (ltb k (2 ^ m)))) 64) → n ≡ m → (k : ℕ) → k < 64 → bit x k ≡ oneIf (ltb k (2 ^ n))
 first-bit = word-at (λ n k. oneIf (ltb k (2 ^ n)))
 
-ones-below : (n p : ℕ) → p < 2 ^ n → (k : ℕ) → k < 64 → bit 0xffff_ffff_ffff_ffff k ≡ oneIf (ltb p (2 ^ n))
-ones-below n p lp k lk = rw (lt-ltb p (2 ^ n) lp) (ones-bit k lk)
+-- from j features on every number below 2 ^ j is a product
+pub all-below : (j n : ℕ) → j ≤ n → (k : ℕ) → k < 2 ^ j → oneIf (ltb k (2 ^ n)) ≡ 1
+all-below j n le k lk = rw (lt-ltb k (2 ^ n) (omega (arith, pow-mono {i = j} {j = n} le)))
 
-pub first-whole : (n : ℕ) → 6 ≤ n → (k : ℕ) → k < 64 → bit 0xffff_ffff_ffff_ffff k ≡ oneIf (ltb k (2 ^ n))
-first-whole n le k lk = ones-below n k (omega (arith, pow-mono {i = 6} {j = n} le)) k lk
-
-module _ (n w : ℕ) where
-  zero-past : 2 ^ n ≤ w * 64 → (k : ℕ) → k < 64 → bit 0 k ≡ oneIf (ltb (w * 64 + k) (2 ^ n))
-  zero-past le k lk = rw (le-ltb (w * 64 + k) (2 ^ n) (omega arith)) (zero-bit k)
-
-  power-words : 6 ≤ n → 2 ^ n ≡ 2 ^ (n - 6) * 64
-  power-words le =
-      let e : n - 6 + 6 ≡ n = omega arith in
-      rw e at (pow-add 2 (n - 6) 6)
-
-  pub all-whole : w < 16 → 10 ≤ n → (k : ℕ) → k < 64 → bit 0xffff_ffff_ffff_ffff k ≡ oneIf (ltb (w * 64 + k) (2 ^ n))
-  all-whole lw le k lk = ones-below n (w * 64 + k) (omega (arith, pow-mono {i = 10} {j = n} le)) k lk
-
-  pub word-whole : 6 ≤ n → w / 2 ^ (n - 6) ≡ 0 → (k : ℕ) → k < 64 → bit 0xffff_ffff_ffff_ffff k ≡ oneIf (ltb (w * 64 + k) (2 ^ n))
-  word-whole le e k lk =
-      let z : w < 2 ^ (n - 6) = omega (arith, div-add-mod' w (2 ^ (n - 6)), mod-lt w (pow-pos (n - 6)), ap (λ (m : ℕ). m * 2 ^ (n - 6)) e) in
-      ones-below n (w * 64 + k) (omega (arith, power-words le)) k lk
-
-  pub word-none : 6 ≤ n → (w / 2 ^ (n - 6) ≡ 0 → ⊥) → (k : ℕ) → k < 64 → bit 0 k ≡ oneIf (ltb (w * 64 + k) (2 ^ n))
-  word-none le ne =
-      let z : (w < 2 ^ (n - 6)) → ⊥ = λ lt. ne (div-eq-of-lt lt) in
-      zero-past (omega (arith, power-words le))
-
-  pub word-first : (x : ℕ) → ((k : ℕ) → k < 64 → bit x k ≡ oneIf (ltb k (2 ^ n))) → w ≡ 0 → (k : ℕ) → k < 64 → bit x k ≡ oneIf (ltb (w * 64 + k) (2 ^ n))
-  word-first x h e k lk = let d : w * 64 + k ≡ k = omega arith in rw d (h k lk)
-
-  pub word-later : n < 6 → (w ≡ 0 → ⊥) → (k : ℕ) → k < 64 → bit 0 k ≡ oneIf (ltb (w * 64 + k) (2 ^ n))
-  word-later ln ne = zero-past (omega (arith, pow-mono {i = n} {j = 6} (omega arith)))
+-- up to j features no number from 2 ^ j on is one
+pub none-past : (j n : ℕ) → n ≤ j → (k : ℕ) → 2 ^ j ≤ k → oneIf (ltb k (2 ^ n)) ≡ 0
+none-past j n le k lk = rw (le-ltb k (2 ^ n) (omega (arith, pow-mono {i = n} {j = j} le)))
 
 -- ---- how many bits of a word are 1
 

@@ -125,35 +125,18 @@ fn first_word(n: usize) -> u64
     }
 }
 
-// Word w of the set of all products of n features.
-fn all_word(n: usize, w: usize) -> u64
-    requires { ⌜ w < 16 ⌝ }
-    ensures { λ r. ⌜ ((k : ℕ) → k < 64 → bit r k ≡ oneIf (ltb (w * 64 + k) (2 ^ n))) ⌝ }
-{
-    if 10 <= n {
-        return ON;
-    }
-    if 6 <= n {
-        if w >> (n - 6) == 0 {
-            return ON;
-        }
-        return 0;
-    }
-    if w == 0 {
-        return first_word(n);
-    }
-    0
-}
-
 // All products of n features. From 10 features on these are all 1,024.
 pub fn all(n: usize) -> [u64; 16]
     ensures { λ r. ⌜ ((p : ℕ) → p < 1024 → has r p ≡ oneIf (ltb p (2 ^ n))) ⌝ }
 {
-    let mut r = [0u64; 16];
-    let mut w = 0;
-    while w < 16 {
-        r[w] = all_word(n, w);
-        w += 1;
+    if n <= 6 {
+        let word = first_word(n);
+        return [word, 0, 0, 0, 0, 0, 0, 0, 0, 0, 0, 0, 0, 0, 0, 0];
     }
-    r
+    match n {
+        7 => [ON, ON, 0, 0, 0, 0, 0, 0, 0, 0, 0, 0, 0, 0, 0, 0],
+        8 => [ON, ON, ON, ON, 0, 0, 0, 0, 0, 0, 0, 0, 0, 0, 0, 0],
+        9 => [ON, ON, ON, ON, ON, ON, ON, ON, 0, 0, 0, 0, 0, 0, 0, 0],
+        _ => [ON; 16],
+    }
 }

@@ -12,13 +12,13 @@ use native.Mathlib.Omega.{arith}
 use borrow.Author.Tests.{eq-eqb, ne-eqb}
 use lib.Bits.{bitOr}
 use lib.Dec.{eqb}
-use lib.ListN.{length, getD, drop, drop-of-length-le, replicate, List·getD-eq-default}
+use lib.ListN.{length, getD, drop, drop-of-length-le, List·getD-eq-default}
 use lib.Pow.{shr-shr}
 use Rattle.text.specs.Text.{limit, Wrote}
 use Rattle.text.proofs.Laws.{wrote-none, wrote-then, wrote-long}
 use Rattle.products.specs.Sets.{bit, has, oneIf, countTo}
 use Rattle.products.proofs.Bits.{bit-or, zero-bit}
-use Rattle.products.proofs.Laws.{empty-has, nothing-has, has-row}
+use Rattle.products.proofs.Laws.{nothing-has, has-row}
 use Rattle.products.specs.declared.Found.the-variants.{Nothing}
 use Rattle.sheet.specs.declared.Counts.{Counts}
 use Rattle.sheet.specs.Sheet.{Move, Stop, Sheet}
@@ -219,9 +219,10 @@ marked : {n : ℕ} (b : Bool) → n ≡ oneIf b → n ≡ 1 → b ≡ true
 marked true e z = refl
 marked false e z = absurd (omega arith)
 
--- where no stop line is for the state, none declares anything
-pub none-declared : (t h : List (List ℕ)) (q n : ℕ) {mark : ℕ} → mark ≡ 0 → mark ≡ oneIf (rowAt t 1 q n) → (p : ℕ) → p < 1024 → has (replicate 16 0) p ≡ guardsAt t h q p n
-none-declared t h q n z e p lp = empty-has p ∙ sym (guards-none t h q p n (unmarked (rowAt t 1 q n) e z))
+-- where no stop line is for the state, none excuses anything
+pub none-declared : (t h : List (List ℕ)) (q n : ℕ) {mark : ℕ} → mark ≡ 0 → mark ≡ oneIf (rowAt t 1 q n) → (out : List ℕ) (p : ℕ)
+    → has out p ≡ max (has out p) (guardsAt t h q p n)
+none-declared t h q n z e out p = omega (arith, guards-none t h q p n (unmarked (rowAt t 1 q n) e z))
 
 -- ---- which states are named
 
@@ -381,21 +382,21 @@ module _ {c : Counts} {m t h sets out : List (List ℕ)} {room : List ℕ} {at :
 
 -- one named state's row
 pub state-laid : {c : Counts} {t h sets out : List (List ℕ)} {leaves stopped q : ℕ} → q < 64
-    → (v : StateVerdict) {k at next : ℕ} {room room′ : List ℕ} → Wrote room at (stateRow q v k) room′ next → k ≡ countTo (getD sets q []) 1024 → (declared : List ℕ)
-    → ((n : ℕ) → n ≡ min (min (min (c .stops) 64) (length t)) (length h) → bit stopped q ≡ oneIf (rowAt t 1 q n) → (p : ℕ) → p < 1024 → has declared p ≡ guardsAt t h q p n)
-    → StateSets (getD sets q []) (eqb (bit leaves q) 1) (getD out q []) declared v
+    → (v : StateVerdict) {k at next : ℕ} {room room′ : List ℕ} → Wrote room at (stateRow q v k) room′ next → k ≡ countTo (getD sets q []) 1024
+    → ((n : ℕ) → n ≡ min (min (min (c .stops) 64) (length t)) (length h) → bit stopped q ≡ oneIf (rowAt t 1 q n)
+    → (excused : List ℕ) × ((p : ℕ) → p < 1024 → has excused p ≡ max (has (getD out q []) p) (guardsAt t h q p n)) × StateSets (getD sets q []) (eqb (bit leaves q) 1) excused v)
     → (m g : List (List ℕ)) (r : Sheet) → Ready c m g t h sets r → Told c m g t sets out leaves stopped → Named r q
     → (vs : List ℕ) × ((before : List ℕ) → StateRows _≤_ r q before → StateRows _≤_ r (suc q) (before ++ vs)) × Wrote room at vs room′ next
-state-laid {c} {out = out} {q = q} lq v {k} l e declared d x m g r w told i = (
-  stateRow q v k,
-  λ before s.
-      StateRows.named {k = k} v i
-      (state-judged (w .accepted) (w .reaches) (w .stands) lq (getD out q []) (told .outward q lq) declared
-      (d (min (c .stops) 64) (sym (guarded-stops w)) (told .declared q lq))
-      (mark-told (rowAt m 1 q (min (c .moves) 256)) (told .left q lq)) v x)
-      (rw e (count-judged (w .accepted) (w .reaches) lq)) s,
-  l,
-)
+state-laid {c} {q = q} lq v {k} l e judged m g r w told i =
+    let x = judged (min (c .stops) 64) (sym (guarded-stops w)) (told .declared q lq) in (
+      stateRow q v k,
+      λ before s.
+          StateRows.named {k = k} v i
+          (state-judged (w .accepted) (w .reaches) (w .stands) lq (x .0) (λ p b. x .1 p (b .small) ∙ rw (told .outward q lq p b) refl)
+          (mark-told (rowAt m 1 q (min (c .moves) 256)) (told .left q lq)) v (x .2))
+          (rw e (count-judged (w .accepted) (w .reaches) lq)) s,
+      l,
+    )
 
 -- the same where the state has no row
 pub state-past : {c : Counts} {t h sets out : List (List ℕ)} {leaves stopped q : ℕ} → q < 64 → length sets ≤ q

@@ -5,7 +5,7 @@ mod row;
 ghost use mathlib.Core.Path.{_≡_};
 ghost use mathlib.Core.Bool.{Bool, _||_};
 ghost use mathlib.Core.List.{List, _++_};
-ghost use Prim.Native.Nat.{ℕ, suc, _*_, _%_, _≤_, _<_, min};
+ghost use Prim.Native.Nat.{ℕ, suc, _*_, _%_, _≤_, _<_, min, max};
 ghost use lib.Dec.{eqb};
 ghost use lib.ListN.{length, getD, replicate};
 ghost use Rattle.text.specs.Text.{Wrote};
@@ -14,7 +14,7 @@ ghost use Rattle.sheet.specs.Sheet.{Sheet};
 ghost use Rattle.sheet.specs.Reading.{kept, readSheet};
 ghost use Rattle.sheet.specs.Tables.{tables, ReadsSheet};
 ghost use Rattle.verdicts.specs.Verdicts.{Named};
-ghost use Rattle.verdicts.specs.Judging.{MoveSets, StopSets, guardsAt, rowAt};
+ghost use Rattle.verdicts.specs.Judging.{MoveSets, StateSets, StopSets, guardsAt, rowAt};
 ghost use Rattle.family.specs.Ways.{Depth};
 ghost use Rattle.family.specs.Rounds.{toAt, highestTo};
 ghost use Rattle.reporting.specs.Report.{IsReport, MoveRows, StateRows, StopRows};
@@ -36,6 +36,8 @@ pub enum Answer {
     Done(usize),
     Refused { number: u8, line: usize },
 }
+
+const MOST_BYTES: usize = 65536;
 
 // How long a text may be for each size of tables: a move line has at least 13 bytes and a stop line 9, so
 // that these have at most 3, 9, 13, 36, 90 and 144 move lines. Nothing hangs on the sizes but speed.
@@ -68,10 +70,16 @@ const LONG: usize = 8192;
 
 const OWN: usize = 12288;
 
-// Lays the report of the sheet `text` into `room`.
+// Lays the report of the sheet `text` into `room`. What the text's length alone refuses needs no tables.
 pub fn report(text: &[u8], room: &mut [u8]) -> Answer
     ensures { λ r. ⌜ ReportPromise (now (text .entry)) (now (room .entry)) (now (room .exit)) r ⌝ }
 {
+    if MOST_BYTES < text.len() {
+        return refuse(1, 0);
+    }
+    if text.len() == 0 {
+        return refuse(2, 0);
+    }
     if text.len() <= LEAST_TEXT {
         return report_least(text, room);
     }
@@ -346,24 +354,14 @@ fn lay(
     sets: &[[u64; 16]],
     out: &[[u64; 16]],
     moves: &[[usize; 6]],
-    move_guards: &[[u64; 16]],
+    guards: &[[u64; 16]],
     stops: &[[usize; 2]],
     stop_guards: &[[u64; 16]],
 ) -> Answer
     requires { ⌜ min 64 (length (now sets)) ≤ length (now out) ⌝ }
-    ensures { λ a. ⌜ ((s : List ℕ) (r : Sheet) → readSheet s ≡ kept r → Ready c (now (moves .entry)) (now («move_guards» .entry)) (now (stops .entry)) (now («stop_guards» .entry)) (now (sets .entry)) r → Outward c (now (moves .entry)) (now («move_guards» .entry)) (now (sets .entry)) (now (out .entry)) → Depth r depth → ReportPromise s (now (room .entry)) (now (room .exit)) a) ⌝ }
+    ensures { λ a. ⌜ ((s : List ℕ) (r : Sheet) → readSheet s ≡ kept r → Ready c (now (moves .entry)) (now (guards .entry)) (now (stops .entry)) (now («stop_guards» .entry)) (now (sets .entry)) r → Outward c (now (moves .entry)) (now (guards .entry)) (now (sets .entry)) (now (out .entry)) → Depth r depth → ReportPromise s (now (room .entry)) (now (room .exit)) a) ⌝ }
 {
-    let n = put_report(
-        own,
-        c,
-        depth,
-        sets,
-        out,
-        moves,
-        move_guards,
-        stops,
-        stop_guards,
-    );
+    let n = put_report(own, c, depth, sets, out, moves, guards, stops, stop_guards);
     if room.len() < n {
         return refuse(11, 0);
     }
@@ -371,17 +369,7 @@ fn lay(
         let k = text::put_bytes(room, 0, &own[0..n]);
         return Answer::Done(k);
     }
-    let k = put_report(
-        room,
-        c,
-        depth,
-        sets,
-        out,
-        moves,
-        move_guards,
-        stops,
-        stop_guards,
-    );
+    let k = put_report(room, c, depth, sets, out, moves, guards, stops, stop_guards);
     Answer::Done(k)
 }
 
@@ -531,26 +519,32 @@ fn put_state_at(
     if sets.len() <= q {
         return put_state(room, at, q, StateVerdict::Unreached, 0);
     }
-    let declared = declared_at(q, c.stops, stopped, stops, stop_guards);
-    let v = verdicts::judge_state(&sets[q], (leaves >> q) % 2 == 1, &out[q], &declared);
+    let v = state_at(q, sets, out, leaves, stopped, c.stops, stops, stop_guards);
     put_state(room, at, q, v, members::count(sets[q]))
 }
 
-// The products in which a stop line of q holds: none, if no stop line is for it.
-fn declared_at(
+// The state q, judged. Excused are the products in which a move line of it holds, and those in which a stop
+// line does, if one is for it.
+fn state_at(
     q: usize,
-    count: usize,
+    sets: &[[u64; 16]],
+    out: &[[u64; 16]],
+    leaves: u64,
     stopped: u64,
+    count: usize,
     stops: &[[usize; 2]],
     stop_guards: &[[u64; 16]],
-) -> [u64; 16]
-    requires { ⌜ q < 64 ⌝ }
-    ensures { λ r. ⌜ ((n : ℕ) → n ≡ min (min (min count 64) (length (now (stops .entry)))) (length (now («stop_guards» .entry))) → bit stopped q ≡ oneIf (rowAt (now (stops .entry)) 1 q n) → (p : ℕ) → p < 1024 → has r p ≡ guardsAt (now (stops .entry)) (now («stop_guards» .entry)) q p n) ⌝ }
+) -> StateVerdict
+    requires { ⌜ (q < 64) × (q < length (now sets)) × (q < length (now out)) ⌝ }
+    ensures { λ v. ⌜ ((n : ℕ) → n ≡ min (min (min count 64) (length (now (stops .entry)))) (length (now («stop_guards» .entry))) → bit stopped q ≡ oneIf (rowAt (now (stops .entry)) 1 q n) → (excused : List ℕ) × ((p : ℕ) → p < 1024 → has excused p ≡ max (has (getD (now (out .entry)) q List.[]) p) (guardsAt (now (stops .entry)) (now («stop_guards» .entry)) q p n)) × StateSets (getD (now (sets .entry)) q List.[]) (eqb (bit leaves q) 1) excused v) ⌝ }
 {
+    let leaving = (leaves >> q) % 2 == 1;
     if (stopped >> q) % 2 == 0 {
-        return [0u64; 16];
+        return verdicts::judge_state(&sets[q], leaving, &out[q]);
     }
-    verdicts::declared_at(q, count, stops, stop_guards)
+    let declared = verdicts::declared_at(q, count, stops, stop_guards);
+    let excused = products::either(out[q], declared);
+    verdicts::judge_state(&sets[q], leaving, &excused)
 }
 
 // The rows of all stop lines.

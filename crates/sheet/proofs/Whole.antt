@@ -9,9 +9,7 @@ use borrow.Author.Tests.{eq-eqb, ne-eqb, lt-ltb, le-ltb}
 use lib.Dec.{ltb}
 use lib.ListN.{length, getD, drop, replicate, length-replicate}
 use lib.Pow.{pow-mono}
-use Rattle.products.specs.declared.Found.{Found}
-use Rattle.products.specs.declared.Found.the-variants.{At, Nothing}
-use Rattle.products.specs.Sets.{has, oneIf, In, Finds}
+use Rattle.products.specs.Sets.{has, oneIf, In}
 use Rattle.products.proofs.Laws.{empty-has, one-true}
 use Rattle.fields.specs.Bytes.{part, FirstAt}
 use Rattle.fields.specs.Cutting.{lines, fields}
@@ -122,28 +120,25 @@ module _ {s : List ℕ} {nm : List (List ℕ)} {v : List ℕ} {m g t d : List (L
         let k : 2 ^ length (st .sheet .features) ≤ 2 ^ 10 = pow-mono {j = 10} (omega arith) in
         omega arith
 
-    module _ (f : Found) (least : Finds _≤_ (In y) f) where
-      pub no-product : {T : Tables} {r : SheetRead} → f ≡ Nothing → r ≡ whole.Refused 10 (c .valid) → Ends s T r (ended n st)
-      unfolding ended
-      no-product a z =
-          let k : (q : ℕ) → In y q → ⊥ = subst (Finds _≤_ (In y)) a least in
-          let i : (p : ℕ) → p < 2 ^ length (st .sheet .features) → isValid (st .sheet) p ≡ false =
-          λ p h. one-false (isValid (st .sheet) p) (λ e. k p (record { small = small p h; is = allowed p (small p h) ∙ e })) in
-          record { is = rw (z, so .validLine) (rw (come, none-true (isValid (st .sheet)) (2 ^ length (st .sheet .features)) i)) }
+    pub no-product : {T : Tables} {r : SheetRead} → ((q : ℕ) → In y q → ⊥) → r ≡ whole.Refused 10 (c .valid) → Ends s T r (ended n st)
+    unfolding ended
+    no-product k z =
+        let i : (p : ℕ) → p < 2 ^ length (st .sheet .features) → isValid (st .sheet) p ≡ false =
+        λ p h. one-false (isValid (st .sheet) p) (λ e. k p (record { small = small p h; is = allowed p (small p h) ∙ e })) in
+        record { is = rw (z, so .validLine) (rw (come, none-true (isValid (st .sheet)) (2 ^ length (st .sheet .features)) i)) }
 
-      pub finished : {q : ℕ} → f ≡ At q
-          → Ends s (tables nm y m g t d) (whole.Kept (record { features = c .features; start = c .start; moves = c .moves; stops = c .stops })) (ended n st)
-      unfolding ended
-      finished {q} a =
-          let k = subst (Finds _≤_ (In y)) a least in
-          let i : isValid (st .sheet) q ≡ true = one-true (isValid (st .sheet) q) (sym (allowed q (k .is .small)) ∙ k .is .is) in
-          record {
-            is = (
-              st .sheet,
-              rw (come, valid-found (st .sheet) q i),
-              record { start = so .start; valid = allowed; few = so .few; stopsFew = so .stopsFew; filled = filled-still (so .filled) },
-            );
-          }
+    pub finished : (q : ℕ) × In y q
+        → Ends s (tables nm y m g t d) (whole.Kept (record { features = c .features; start = c .start; moves = c .moves; stops = c .stops })) (ended n st)
+    unfolding ended
+    finished (q, k) =
+        let i : isValid (st .sheet) q ≡ true = one-true (isValid (st .sheet) q) (sym (allowed q (k .small)) ∙ k .is) in
+        record {
+          is = (
+            st .sheet,
+            rw (come, valid-found (st .sheet) q i),
+            record { start = so .start; valid = allowed; few = so .few; stopsFew = so .stopsFew; filled = filled-still (so .filled) },
+          );
+        }
 
 -- ---- the loop over the lines
 
@@ -272,27 +267,33 @@ pub all-blank : {m g t h : List (List ℕ)} → m ≡ replicate (length m) (repl
 all-blank p q r u = same-lent p q r u
 
 module _ (s : List ℕ) where
-  pub sheet-long : {T : Tables} {r : SheetRead} → Blank T → 65536 < length s → r ≡ whole.Refused 1 0 → ReadsSheet s T r
+  -- what the length alone refuses
+  pub read-long : 65536 < length s → readSheet s ≡ refused 1 0
   unfolding readSheet
-  sheet-long b h z = rw z (rw (lt-ltb 65536 (length s) h), b)
+  read-long h = rw (lt-ltb 65536 (length s) h)
 
-  module _ (l : length s ≤ 65536) where
-    pub sheet-empty : {T : Tables} {r : SheetRead} → Blank T → length s ≡ 0 → r ≡ whole.Refused 2 0 → ReadsSheet s T r
+  pub read-empty : length s ≡ 0 → readSheet s ≡ refused 2 0
+  unfolding readSheet
+  read-empty h = rw (le-ltb 65536 (length s) (omega arith), last-none s h)
+
+  pub sheet-long : {T : Tables} {r : SheetRead} → Blank T → 65536 < length s → r ≡ whole.Refused 1 0 → ReadsSheet s T r
+  sheet-long b h z = rw z (read-long h, b)
+
+  pub sheet-empty : {T : Tables} {r : SheetRead} → Blank T → length s ≡ 0 → r ≡ whole.Refused 2 0 → ReadsSheet s T r
+  sheet-empty b h z = rw z (read-empty h, b)
+
+  module _ (l : length s ≤ 65536) (h : length s ≡ 0 → ⊥) where
+    pub sheet-open : {T : Tables} {r : SheetRead} → Blank T → (getD s (length s - 1) 0 ≡ 10 → ⊥) → r ≡ whole.Refused 2 0 → ReadsSheet s T r
     unfolding readSheet
-    sheet-empty b h z = rw z (rw (le-ltb 65536 (length s) l, last-none s h), b)
+    sheet-open b e z = rw z (rw (le-ltb 65536 (length s) l, last-at 0 s (omega arith), ne-eqb (getD s (length s - 1) 0) 10 e), b)
 
-    module _ (h : length s ≡ 0 → ⊥) where
-      pub sheet-open : {T : Tables} {r : SheetRead} → Blank T → (getD s (length s - 1) 0 ≡ 10 → ⊥) → r ≡ whole.Refused 2 0 → ReadsSheet s T r
+    module _ (e : getD s (length s - 1) 0 ≡ 10) where
+      begins : readSheet s ≡ fromTop s
       unfolding readSheet
-      sheet-open b e z = rw z (rw (le-ltb 65536 (length s) l, last-at 0 s (omega arith), ne-eqb (getD s (length s - 1) 0) 10 e), b)
+      begins = rw (le-ltb 65536 (length s) l, last-at 0 s (omega arith), eq-eqb (getD s (length s - 1) 0) 10 e)
 
-      module _ (e : getD s (length s - 1) 0 ≡ 10) where
-        begins : readSheet s ≡ fromTop s
-        unfolding readSheet
-        begins = rw (le-ltb 65536 (length s) l, last-at 0 s (omega arith), eq-eqb (getD s (length s - 1) 0) 10 e)
+      pub sheet-refused : {T U : Tables} {r : SheetRead} {i k : ℕ} → Ends s U r (fromTop s) → r ≡ whole.Refused i k → Blank T → ReadsSheet s T r
+      sheet-refused f z b = rw z (begins ∙ ends-as z f, b)
 
-        pub sheet-refused : {T U : Tables} {r : SheetRead} {i k : ℕ} → Ends s U r (fromTop s) → r ≡ whole.Refused i k → Blank T → ReadsSheet s T r
-        sheet-refused f z b = rw z (begins ∙ ends-as z f, b)
-
-        pub sheet-kept : {T : Tables} {r : SheetRead} {c : Counts} → Ends s T r (fromTop s) → r ≡ whole.Kept c → ReadsSheet s T r
-        sheet-kept f z = let y = ends-as z f in rw z (y .0, begins ∙ y .1, y .2)
+      pub sheet-kept : {T : Tables} {r : SheetRead} {c : Counts} → Ends s T r (fromTop s) → r ≡ whole.Kept c → ReadsSheet s T r
+      sheet-kept f z = let y = ends-as z f in rw z (y .0, begins ∙ y .1, y .2)

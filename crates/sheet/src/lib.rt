@@ -12,7 +12,6 @@ ghost use Rattle.sheet.specs.Reading.{State, ended, readLines, nothing};
 ghost use Rattle.sheet.specs.Tables.{tables, blankTables, ReadsSheet};
 ghost use Rattle.sheet.specs.Inside.{Stands, Ends};
 use line::read_line;
-use products::Found;
 
 // What an accepted sheet counts, and its start.
 pub struct Counts {
@@ -220,10 +219,9 @@ fn read_lines(
     let mut number = 1;
     while at < text.len() {
         let end = fields::find(text, LINE_END, at);
-        let place = LinePlace { at, end, number };
         let r = read_line(
             text,
-            place,
+            LinePlace { at, end, number },
             c,
             names,
             valid,
@@ -278,10 +276,9 @@ fn finish(c: Progress, line: usize, valid: &mut [u64; 16]) -> SheetRead
     }
     let held = *valid;
     let allowed = products::both(held, products::all(c.features));
-    let f = members::least(allowed);
-    let Found::At(_) = f else {
+    if members::is_empty(allowed) {
         return refuse_sheet(10, c.valid);
-    };
+    }
     *valid = allowed;
     SheetRead::Kept(Counts {
         features: c.features,

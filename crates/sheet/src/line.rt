@@ -240,8 +240,7 @@ fn read_move(
     requires { ⌜ (min (length (now text)) 3328 ≤ 13 * length (now moves)) × (min (length (now text)) 3328 ≤ 13 * length (now «move_guards»)) ⌝ }
     ensures { λ r. ⌜ ((v : List ℕ) (t h : List (List ℕ)) (st : State) → Stands (now (text .entry)) (tables (now (names .entry)) v (now (moves .entry)) (now («move_guards» .entry)) t h) (now (seen .entry)) c st → Lies (now (text .entry)) (now (rest .entry)) at → Says (now (text .entry)) (tables (now (names .entry)) v (now (moves .exit)) (now («move_guards» .exit)) t h) (now (seen .exit)) r (moveLine line at st (asFour (fields (now (rest .entry)))))) ⌝ }
 {
-    let cut = cutting::cut_four(rest);
-    let FourFields::Ends { b, c: m, d } = cut else {
+    let FourFields::Ends { b, c: m, d } = cutting::cut_four(rest) else {
         return refuse(3, line);
     };
     if MOST_MOVES <= c.moves {

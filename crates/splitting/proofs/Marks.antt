@@ -12,7 +12,7 @@ use borrow.Author.Count.{below-none, below-more}
 use borrow.Author.Tests.{eqb-true, eqb-false, eq-eqb, ne-eqb}
 use lib.Bits.{bitOr, bitXor}
 use lib.Dec.{eqb}
-use lib.ListN.{getD, length, replicate, set, length-set}
+use lib.ListN.{getD, length, set, length-set}
 use lib.Pow.{pow-add, pow-lt, pow-mono, pow-pos, shr-shr, high, low, field, mod-mod-pow}
 use lib.Seq.{getD-set-same, getD-set-other}
 use Rattle.products.specs.Sets.{bit, has}
@@ -458,9 +458,9 @@ made-more {s} {t} {w} {x} h lw e = record {
       (rw (getD-set-same t w x 0 (omega (arith, h .long))) e);
 }
 
-pub made-first : {s : List ℕ} {x : ℕ} → Word s 0 x → Made s (set (replicate 16 0) 0 x) 1
-made-first {s} h =
-    made-more {t = replicate 16 0} (record { most = omega arith; long = refl; words = below-none (λ v. Word s v (getD (replicate 16 0) v 0)) }) (omega arith) h
+pub made-first : {s : List ℕ} {x : ℕ} (t : List ℕ) → length t ≡ 16 → Word s 0 x → Made s (set t 0 x) 1
+made-first {s} t long h =
+    made-more {t = t} (record { most = omega arith; long = long; words = below-none (λ v. Word s v (getD t v 0)) }) (omega arith) h
 
 -- all words in which the first n features have bits
 pub made-all : {s t : List ℕ} {w : ℕ} (n : ℕ) → Made s t w → 2 ^ n ≤ w * 64 → Tells n s t

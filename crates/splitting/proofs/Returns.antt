@@ -9,12 +9,14 @@ use native.Mathlib.Numerals.{add-one}
 use native.Mathlib.Nat.{zero-mul}
 use borrow.Author.Tests.{lt-ltb, le-ltb, eqb-true, eqb-false}
 use lib.Dec.{eqb, ltb}
-use lib.ListN.{length}
+use lib.ListN.{length, take}
 use lib.Pow.{pow-mono}
 use Rattle.products.specs.Sets.{has, oneIf}
 use Rattle.products.proofs.Laws.{has-le}
 use Rattle.text.specs.Text.{Wrote}
 use Rattle.text.proofs.Laws.{wrote-then}
+use Rattle.fields.specs.Bytes.{part}
+use Rattle.fields.proofs.Parts.{part-rest}
 use Rattle.guards.specs.Guard.{Operator, Guard, Parts, never, always, feature, neg, chain, choice, one, more, nameOf, byteOf, print, printParts}
 use Rattle.guards.specs.Reading.{namesOf}
 use Rattle.guards.proofs.Finding.{rowName, names-length}
@@ -77,6 +79,12 @@ pub leaf-text : (b : Bool) (names : List (List ℕ)) → print (cond b always ne
 unfolding print
 leaf-text true names = refl
 leaf-text false names = refl
+
+-- a text taken anew is the text: what is laid with the names in the one is laid with the names in the other
+pub anew : {l l′ : List ℕ} {at r : ℕ} (g : Guard) (text : List ℕ) (rows : List (List ℕ)) (n : ℕ)
+    → Wrote l at (print g (namesOf (take (length text - 0) text) rows n) []) l′ r → Wrote l at (print g (namesOf text rows n) []) l′ r
+unfolding part
+anew g text rows n w = let e : take (length text - 0) text ≡ text = part-rest text 0 in rw e at w
 
 -- no feature is left on which the set depends
 pub laid-leaf : {l l′ : List ℕ} {at r n i j c : ℕ} {b : Bool} {set t : List ℕ} (names : List (List ℕ))

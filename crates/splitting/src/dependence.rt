@@ -2,27 +2,26 @@
 ghost use mathlib.Core.Path.{_≡_};
 ghost use Prim.Native.Nat.{ℕ, _+_, _^_, _<_, _≤_};
 ghost use lib.Dec.{eqb};
-ghost use lib.ListN.{getD};
+ghost use lib.ListN.{getD, length};
 ghost use Rattle.products.specs.Sets.{bit};
 ghost use Rattle.splitting.specs.Splitting.{inSet, all, Within, Tells, Word, Level, First};
 
-// Bit 2 ^ i + c of the table, for i below n, is 1 exactly if the set depends on feature i among the
-// products whose first i features make the number c. Six features have all their bits in word 0.
-pub(crate) fn table(set: &[u64; 16], n: usize) -> [u64; 16]
+// Lays the table: bit 2 ^ i + c of it, for i below n, is 1 exactly if the set depends on feature i among the
+// products whose first i features make the number c. Six features have all their bits in word 0, and the
+// other words are left as they are.
+pub(crate) fn lay_table(set: &[u64; 16], n: usize, table: &mut [u64; 16])
     requires { ⌜ (n ≤ 10) × Within n (now set) ⌝ }
-    ensures { λ r. ⌜ Tells n (now (set .entry)) r ⌝ }
+    ensures { λ _. ⌜ (length (now (table .entry)) ≡ 16 → Tells n (now (set .entry)) (now (table .exit))) ⌝ }
 {
-    let mut t = [0u64; 16];
-    t[0] = first_word(set, n);
+    table[0] = first_word(set, n);
     if n <= 6 {
-        return t;
+        return;
     }
     let mut w = 1;
     while w < 16 {
-        t[w] = later_word(set, w);
+        table[w] = later_word(set, w);
         w += 1;
     }
-    t
 }
 
 // The first feature from i on, and before n, that the table marks for the choices made; else n.

@@ -22,9 +22,12 @@ pub fn put_guard(
 ) -> usize
     ensures { λ r. ⌜ Wrote (now (room .entry)) at (print (guardOf 0 (min count 10) (inSet set)) (namesOf (now (text .entry)) (now (names .entry)) (min count 10)) List.[]) (now (room .exit)) r ⌝ }
 {
+    // A slice taken anew is handed on as two words; a copy of the whole would wait for memory.
+    let text = &text[0..text.len()];
     let n = counts::at_most(count, 10);
     let few = products::both(set, products::all(n));
-    let table = dependence::table(&few, n);
+    let mut table = [0u64; 16];
+    dependence::lay_table(&few, n, &mut table);
     if room.len() <= at {
         let long = length::guard_length(text, names, n, &table);
         if 0 < long {
@@ -50,6 +53,7 @@ fn put_set(
     requires { ⌜ (n ≤ 10) × (i ≤ n) × (chosen < 2 ^ i) ⌝ }
     ensures { λ r. ⌜ (Within n (now (set .entry)) → Tells n (now (set .entry)) (now (table .entry)) → Wrote (now (room .entry)) at (print (guardOf i (n - i) (λ q. inSet (now (set .entry)) (chosen + q * 2 ^ i))) (namesOf (now (text .entry)) (now (names .entry)) n) List.[]) (now (room .exit)) r) ⌝ }
 {
+    let text = &text[0..text.len()];
     let j = dependence::first(table, n, i, chosen);
     if n <= j {
         return put_leaf(room, at, dependence::marked(set, chosen));

@@ -2,7 +2,7 @@
 use mathlib.Core.Path.{_≡_}
 use mathlib.Core.Bool.{Bool, true, false}
 use mathlib.Core.List.{List, []}
-use Prim.Native.Nat.{ℕ, _-_, _<_, _≤_, min}
+use Prim.Native.Nat.{ℕ, _<_, _≤_, min}
 use Rattle.products.specs.declared.Found.{Found}
 use Rattle.products.specs.declared.Found.the-variants.{At, Nothing}
 use native.Mathlib.Omega.{arith}
@@ -12,7 +12,7 @@ use Rattle.verdicts.specs.declared.Verdict.the-variants.{Dead, False, Mu
 use Rattle.verdicts.specs.declared.StateVerdict.the-variants.{Hidden, Live}
 use Rattle.verdicts.specs.declared.StopVerdict.the-variants.{Untrue, Idle, True}
 use Rattle.verdicts.specs.Judging.{InBoth, InOnly, MoveSets, StateSets, StopSets}
-use Rattle.verdicts.proofs.Agreeing.{least-as, none-as, some-as, found-at, found-none, both-agree, left-agree, all-agree}
+use Rattle.verdicts.proofs.Agreeing.{least-as, none-as, some-as, found-at, found-none, both-agree, all-agree}
 
 -- ---- moves
 
@@ -36,13 +36,12 @@ module _ {here guard : List ℕ} {m : Found} (l : Finds _≤_ (InBoth here guard
 
 -- ---- states
 
-module _ {here : List ℕ} {leaves : Bool} (w : leaves ≡ true) {out declared : List ℕ} (s : List ℕ) (one : (p : ℕ) → p < 1024 → has s p ≡ has here p - has out p)
-    {g : Found} (k : Finds _≤_ (InOnly s declared) g) where
-  pub state-live : (p : ℕ) × In here p → g ≡ Nothing → StateSets here leaves out declared Live
-  state-live some d = (some, w, none-as (left-agree one) (found-none _≤_ (InOnly s declared) k d))
+module _ {here excused : List ℕ} {leaves : Bool} (w : leaves ≡ true) {g : Found} (k : Finds _≤_ (InOnly here excused) g) where
+  pub state-live : (p : ℕ) × In here p → g ≡ Nothing → StateSets here leaves excused Live
+  state-live some d = (some, w, found-none _≤_ (InOnly here excused) k d)
 
-  pub state-hidden : {p : ℕ} → g ≡ At p → StateSets here leaves out declared (Hidden p)
-  state-hidden d = (w, least-as (left-agree one) (found-at _≤_ (InOnly s declared) k d))
+  pub state-hidden : {p : ℕ} → g ≡ At p → StateSets here leaves excused (Hidden p)
+  state-hidden d = (w, found-at _≤_ (InOnly here excused) k d)
 
 -- ---- stop lines
 

@@ -1,8 +1,17 @@
--- `clean`: what the call for the text's size leaves; each test gives what that call asks for. Assumes nothing.
+-- `clean`: refused by the length alone, or what the call for the text's size leaves; each test gives what that call asks for. Assumes nothing.
+use mathlib.Core.Path.{refl}
+use mathlib.Core.Logic.{inl}
 use native.Mathlib.Omega.{arith}
 use borrow.Author.Needs.{needs}
+use Rattle.sheet.proofs.Whole.{read-long, read-empty}
 use Rattle.cleaning.proofs.clean.Statement.{statement}
 use Rattle.cleaning.proofs.clean.Tie as tie
+
+returns : tie.Need-returns
+returns c = rw (c .refuse .ensures) (refl, inl (read-long _ (omega (arith, c .before .if1 .taken))))
+
+returns-2 : tie.Need-returns-2
+returns-2 c = rw (c .refuse2 .ensures) (refl, inl (read-empty _ (omega (arith, c .before .if2 .taken))))
 
 clean-least-requires : tie.Need-clean-least-requires
 clean-least-requires c κs = omega arith
@@ -26,6 +35,10 @@ pub clean-spec : {M : Type 1} → statement M
 clean-spec =
     tie.close
     (tie.spec
+    (λ c κs. search needs)
+    returns
+    (λ c κs. search needs)
+    returns-2
     clean-least-requires
     (λ c. search needs)
     (λ c. search needs)

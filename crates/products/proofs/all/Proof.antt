@@ -1,35 +1,31 @@
--- `all` meets its contract. The loop's invariant: the words so far have the products below 2 ^ n. Assumes nothing.
-use Prim.Native.Nat.{_-_, _^_}
-use lib.Dec.{ltb}
-use Rattle.products.specs.Sets.{oneIf}
-use Rattle.products.proofs.Filled.{Filled, filled-has, fill-more}
+-- `all` meets its contract. Up to 6 features only the first word has products, from 7 to 9 the set by its computed test, from 10 on every word is full.
+-- Assumes nothing.
+use mathlib.Core.Path.{sym, _∙_}
+use native.Mathlib.Omega.{arith}
+use Rattle.products.proofs.Bits.{passes, all-below}
+use Rattle.products.proofs.Laws.{full-has}
+use Rattle.products.proofs.Filled.{filled-has, filled-first, all-has}
 use borrow.Author.Needs.{needs}
 use Rattle.products.proofs.all.Statement.{statement}
 use Rattle.products.proofs.all.Tie as tie
 
-abbrev Inv-loop : tie.InvT-loop
-Inv-loop n r₀ w₀ r w = Filled (λ p. oneIf (ltb p (2 ^ n))) r w
+returns : tie.Need-returns
+returns c = filled-has (filled-first _ (c .before .if1 .taken) (c .first-word .ensures)) (omega arith)
 
-abbrev μ-loop : tie.MeasureT-loop
-μ-loop n r₀ w₀ r w = 16 - w
+returns-2 : tie.Need-returns-2
+unfolding passes
+returns-2 c = all-has _ 7 tt (c .match .keys1)
 
-loop-again : tie.Need-loop-again Inv-loop μ-loop
-loop-again c = fill-more (c .all-word .result) (c .before .before .loop .inv) (c .before .loop-test .taken) (c .all-word .ensures)
+returns-3 : tie.Need-returns-3
+unfolding passes
+returns-3 c = all-has _ 8 tt (c .match .keys2)
 
-returns : tie.Need-returns Inv-loop μ-loop
-returns c = filled-has (c .before .loop .inv) (c .loop-test .left)
+returns-4 : tie.Need-returns-4
+unfolding passes
+returns-4 c = all-has _ 9 tt (c .match .keys3)
+
+returns-5 : tie.Need-returns-5
+returns-5 c p lp = full-has p lp ∙ sym (all-below 10 _ (omega arith) p lp)
 
 pub all-spec : {M : Type 1} → statement M
-all-spec =
-    tie.close
-    (tie.spec
-    Inv-loop
-    μ-loop
-    (λ c. search needs)
-    (λ c κs. search needs)
-    (λ c. search needs)
-    (λ c. search needs)
-    (λ c. search needs)
-    (λ c. search needs)
-    loop-again
-    returns)
+all-spec = tie.close (tie.spec (λ c κs. search needs) returns returns-2 returns-3 returns-4 returns-5)

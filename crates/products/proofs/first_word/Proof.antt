@@ -1,6 +1,7 @@
 -- `first_word` meets its contract: each word by its computed test. Assumes nothing.
+use mathlib.Core.Path.{sym, _∙_}
 use native.Mathlib.Omega.{arith}
-use Rattle.products.proofs.Bits.{passes, first-bit, first-whole}
+use Rattle.products.proofs.Bits.{passes, first-bit, ones-bit, all-below}
 use Rattle.products.proofs.first_word.Statement.{statement}
 use Rattle.products.proofs.first_word.Tie as tie
 
@@ -29,7 +30,7 @@ unfolding passes
 returns-6 c = first-bit _ 5 tt (c .match .keys6)
 
 returns-7 : tie.Need-returns-7
-returns-7 c = first-whole _ (omega arith)
+returns-7 c k lk = ones-bit k lk ∙ sym (all-below 6 _ (omega arith) k lk)
 
 pub first-word-spec : {M : Type 1} → statement M
 first-word-spec = tie.close (tie.spec returns returns-2 returns-3 returns-4 returns-5 returns-6 returns-7)

@@ -1,5 +1,4 @@
--- `finish` meets its contract: the set that is left has exactly the valid products, and its least member shows whether there is one.
--- Assumes nothing.
+-- `finish` meets its contract: the set that is left has exactly the valid products, and is empty where there is none. Assumes nothing.
 use borrow.Author.Needs.{needs}
 use Rattle.sheet.proofs.Whole.{lacking, no-product, finished}
 use Rattle.sheet.proofs.finish.Statement.{statement}
@@ -11,15 +10,14 @@ returns c = λ s n m g t h seen st so. lacking so _ (c .before .if1 .taken) (c .
 returns-2 : tie.Need-returns-2
 returns-2 c =
     λ s n m g t h seen st so.
-    no-product so _ (c .before .before .before .before .before .before .before .if1 .left) _ _ (c .before .before .before .before .both .ensures)
-    (c .before .before .before .before .before .all .ensures) _ (c .before .before .before .least .ensures) (c .before .enum-told2 .given .1)
-    (c .refuse-sheet2 .ensures)
+    no-product so _ (c .before .before .before .before .before .before .if1 .left) _ _ (c .before .before .before .both .ensures)
+    (c .before .before .before .before .all .ensures) (c .before .before .is-empty .ensures .0 (c .before .if2 .taken)) (c .refuse-sheet2 .ensures)
 
 returns-3 : tie.Need-returns-3
 returns-3 c =
     λ s n m g t h seen st so.
-    finished so _ (c .before .before .before .before .before .before .if1 .left) _ _ (c .before .before .before .both .ensures)
-    (c .before .before .before .before .all .ensures) _ (c .before .before .least .ensures) (c .enum-told .given .1)
+    finished so _ (c .before .before .before .before .before .if1 .left) _ _ (c .before .before .both .ensures)
+    (c .before .before .before .all .ensures) (c .before .is-empty .ensures .1 (c .if2 .left))
 
 pub finish-spec : {M : Type 1} → statement M
 finish-spec =
@@ -30,8 +28,6 @@ finish-spec =
     (λ c κs. search needs)
     (λ c κs. search needs)
     (λ c κs. search needs)
-    (λ c. search needs)
-    (λ c. search needs)
     (λ c κs. search needs)
     returns-2
     returns-3)

@@ -8,7 +8,7 @@ returns : tie.Need-returns
 returns c = sheet-long _ (c .before .before .before .pre .0) (c .before .if1 .taken) (c .refuse-sheet .ensures)
 
 returns-2 : tie.Need-returns-2
-returns-2 c = sheet-empty _ (c .before .before .if1 .left) (c .before .before .before .before .pre .0) (c .before .if2 .taken)
+returns-2 c = sheet-empty _ (c .before .before .before .before .pre .0) (c .before .if2 .taken)
     (c .refuse-sheet2 .ensures)
 
 returns-3 : tie.Need-returns-3

@@ -1,11 +1,11 @@
 -- `put_set`: a leaf where the table marks no feature that is left; else both halves, between the feature's name and the marks of a choice. The measure
--- is how many features are left of ten. Assumes nothing.
+-- is how many features are left of ten. Each return is shown of the text taken anew (`anew`). Assumes nothing.
 use Prim.Native.Nat.{ℕ, _-_, _<_}
 use native.Mathlib.Omega.{arith}
 use borrow.Author.Needs.{needs}
 use borrow.Fn.Kinds.{In}
 use borrow.Fn.PlainCycle.{Measures, is, falls, and}
-use Rattle.splitting.proofs.Returns.{laid-leaf, laid-split, chosen-small, chosen-below, leaf-below}
+use Rattle.splitting.proofs.Returns.{anew, laid-leaf, laid-split, chosen-small, chosen-below, leaf-below}
 use Rattle.splitting.proofs.put_set.Reads as put-set
 use Rattle.splitting.proofs.put_set.Kinds as put-set-kinds
 use Rattle.splitting.proofs.+put_set.Lts-put_set as put-set-lts
@@ -46,11 +46,14 @@ pub +put-set-spec : {M : Type 1} → statement M
 )
     (put-set-at t)
     put-set.Post
-    (λ c κs. (c .before .before .pre .1 .0, c .before .before .pre .1 .1, c .before .before .pre .1 .2))
+    (λ c. search needs)
+    (λ c. search needs)
+    (λ c. search needs)
+    (λ c κs. let start = c .before .before .before in (start .pre .1 .0, start .pre .1 .1, start .pre .1 .2))
     (λ c κs. omega (
       arith,
-      leaf-below _ _ _ (c .before .before .before .before .before .pre .1 .2)
-          (c .before .before .before .before .before .pre .1 .1) (c .before .before .before .before .before .pre .1 .0),
+      leaf-below _ _ _ (c .before .before .before .before .before .before .pre .1 .2)
+          (c .before .before .before .before .before .before .pre .1 .1) (c .before .before .before .before .before .before .pre .1 .0),
     ))
     (λ c κs. search needs)
     (λ c. search needs)
@@ -59,17 +62,18 @@ pub +put-set-spec : {M : Type 1} → statement M
     let asked = leaf .before in
     let tested = asked .before .before in
     let found = tested .before in
-    let start = found .before .before .before in
-    laid-leaf _ (leaf .put-leaf .ensures) (asked .marked .ensures) (found .first .ensures .2) (start .pre .1 .0) (found .first .ensures .0)
-    (found .first .ensures .1) (tested .if1 .taken) (start .pre .1 .2) within tells)
-    (λ c. omega (arith, c .if1 .left, c .before .before .before .before .pre .1 .0))
+    let start = found .before .before .before .before in
+    anew _ _ _ _
+    (laid-leaf _ (leaf .put-leaf .ensures) (asked .marked .ensures) (found .first .ensures .2) (start .pre .1 .0) (found .first .ensures .0)
+    (found .first .ensures .1) (tested .if1 .taken) (start .pre .1 .2) within tells))
+    (λ c. omega (arith, c .if1 .left, c .before .before .before .before .before .pre .1 .0))
     (λ c. omega (
       arith,
-      chosen-small _ _ _ _ (c .before .before .before .before .pre .1 .2) (c .before .first .ensures .0) (c .if1 .left)
-          (c .before .before .before .before .pre .1 .0),
+      chosen-small _ _ _ _ (c .before .before .before .before .before .pre .1 .2) (c .before .first .ensures .0) (c .if1 .left)
+          (c .before .before .before .before .before .pre .1 .0),
     ))
-    (λ c. let h = c .before .before .before .before .pre .1 .0 in let left = c .if1 .left in search needs)
-    (λ c. omega (arith, c .if1 .left, c .before .before .before .before .pre .1 .0))
+    (λ c. let h = c .before .before .before .before .before .pre .1 .0 in let left = c .if1 .left in search needs)
+    (λ c. omega (arith, c .if1 .left, c .before .before .before .before .before .pre .1 .0))
     (λ c. search needs)
     (λ c. search needs)
     (λ c κs. search needs)
@@ -78,12 +82,12 @@ pub +put-set-spec : {M : Type 1} → statement M
     (λ c κs. search needs)
     (λ c.
     let tested = c .before .before .before .before .before .before .before .before .before .before .before .before .before .before .before in
-    let start = tested .before .before .before .before in
+    let start = tested .before .before .before .before .before in
     omega (arith, tested .if1 .left, start .pre .1 .0))
     (λ c κs.
     let tested = c .before .before .before .before .before .before .before .before .before .before .before .before .before .before .before in
     let found = tested .before in
-    let start = found .before .before .before in (
+    let start = found .before .before .before .before in (
       omega (arith, tested .if1 .left, start .pre .0, found .first .ensures .0, start .pre .1 .0),
       (
         start .pre .1 .0,
@@ -95,13 +99,13 @@ pub +put-set-spec : {M : Type 1} → statement M
     (λ c.
     let tested = c .before .before .before .before .before .before .before .before .before .before .before .before .before .before .before .before
     .before .before .before .before .before .before .before in
-    let start = tested .before .before .before .before in
+    let start = tested .before .before .before .before .before in
     omega (arith, tested .if1 .left, start .pre .1 .0))
     (λ c κs.
     let tested = c .before .before .before .before .before .before .before .before .before .before .before .before .before .before .before .before
     .before .before .before .before .before .before .before in
     let found = tested .before in
-    let start = found .before .before .before in (
+    let start = found .before .before .before .before in (
       omega (arith, tested .if1 .left, start .pre .0, found .first .ensures .0, start .pre .1 .0),
       (
         start .pre .1 .0,
@@ -139,7 +143,8 @@ pub +put-set-spec : {M : Type 1} → statement M
     let bracket = row-name .before .before .before .before in
     let tested = bracket .before .before .before in
     let found = tested .before in
-    let start = found .before .before .before in
-    laid-split _ _ (bracket .put .ensures) (row-name .piece .ensures) (name .put-bytes .ensures) (mark .put2 .ensures) (given .put-set .ensures)
+    let start = found .before .before .before .before in
+    anew _ _ _ _
+    (laid-split _ _ (bracket .put .ensures) (row-name .piece .ensures) (name .put-bytes .ensures) (mark .put2 .ensures) (given .put-set .ensures)
     (colon .put3 .ensures) (other .put-set2 .ensures) (close .put4 .ensures) (found .first .ensures .2) (start .pre .1 .0) (found .first .ensures .0)
-    (tested .if1 .left) (start .pre .1 .2) within tells)
+    (tested .if1 .left) (start .pre .1 .2) within tells))

@@ -1,20 +1,20 @@
 -- `put_guard` meets its contract: the set cut down to the first features' products, with no choice made yet. In a full room nothing is laid, and the
--- place is behind as many bytes as are counted. Assumes nothing.
+-- place is behind as many bytes as are counted. All is shown of the text taken anew, and `anew` says it of the text. Assumes nothing.
+use mathlib.Core.Path.{refl}
 use native.Mathlib.Omega.{arith}
-use Rattle.splitting.proofs.Returns.{laid-whole, whole-within}
+use Rattle.splitting.proofs.Returns.{anew, laid-whole, whole-within}
 use Rattle.splitting.proofs.Lengths.{laid-counted}
 use borrow.Author.Needs.{needs}
 use Rattle.splitting.proofs.put_guard.Statement.{statement}
 use Rattle.splitting.proofs.put_guard.Tie as tie
 
-table-requires : tie.Need-table-requires
-table-requires c κs = (
-  omega (arith, c .before .before .before .at-most .ensures),
-  whole-within _ _ _ _ (c .before .both .ensures) (c .before .before .all .ensures),
-)
+lay-table-requires : tie.Need-lay-table-requires
+lay-table-requires c κs =
+    let cut = c .before .before in
+    let every = cut .before in (omega (arith, every .before .at-most .ensures), whole-within _ _ _ _ (cut .both .ensures) (every .all .ensures))
 
 guard-length-requires : tie.Need-guard-length-requires
-guard-length-requires c κs = omega (arith, c .before .before .before .before .before .before .at-most .ensures)
+guard-length-requires c κs = omega (arith, c .before .before .before .before .before .before .before .at-most .ensures)
 
 returns : tie.Need-returns
 returns c =
@@ -22,32 +22,38 @@ returns c =
     let counted = tested .before in
     let full = counted .before .before in
     let made = full .before in
-    let cut = made .before .before in
+    let cut = made .before .before .before in
     let every = cut .before in
-    let good = every .before .before .before .before .good in
-    laid-whole _ _ _ _ _ _ _ _
+    let good = every .before .before .before .before .before .good in
+    anew _ _ _ _
+    (laid-whole _ _ _ _ _ _ _ _
     (laid-counted _ _ (counted .guard-length .ensures) (c .place-behind .ensures) (tested .if2 .taken) (full .if1 .taken) (search needs))
-    (every .before .at-most .ensures) (cut .both .ensures) (every .all .ensures) (made .table .ensures)
+    (every .before .at-most .ensures) (cut .both .ensures) (every .all .ensures) (made .lay-table .ensures refl))
 
 put-set-requires : tie.Need-put-set-requires
-put-set-requires c κs = (omega (arith, c .before .before .before .before .before .before .before .before .at-most .ensures), omega arith, omega arith)
+put-set-requires c κs = (omega (arith, c .before .before .before .before .before .before .before .before .before .at-most .ensures), omega arith, omega arith)
 
 returns-2 : tie.Need-returns-2
 returns-2 c =
     let laid = c .before .before in
     let made = laid .before .before .before .before .before in
-    let cut = made .before .before in
+    let cut = made .before .before .before in
     let every = cut .before in
-    laid-whole _ _ _ _ _ _ _ _ (laid .put-set .ensures) (every .before .at-most .ensures) (cut .both .ensures) (every .all .ensures) (made .table .ensures)
+    anew _ _ _ _
+    (laid-whole _ _ _ _ _ _ _ _ (laid .put-set .ensures) (every .before .at-most .ensures) (cut .both .ensures) (every .all .ensures)
+    (made .lay-table .ensures refl))
 
 pub put-guard-spec : {M : Type 1} → statement M
 put-guard-spec =
     tie.close
     (tie.spec
+    (λ c. search needs)
+    (λ c. search needs)
+    (λ c. search needs)
     (λ c κs. search needs)
     (λ c κs. search needs)
     (λ c κs. search needs)
-    table-requires
+    lay-table-requires
     guard-length-requires
     (λ c κs. search needs)
     returns

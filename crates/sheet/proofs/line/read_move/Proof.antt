@@ -13,64 +13,64 @@ returns c = λ v t h st so lies. move-wrong _ _ _ st (c .before .enum-told .give
 returns-2 : tie.Need-returns-2
 returns-2 c =
     λ v t h st so lies.
-    move-full _ _ _ st so (c .before .before .before .before .cut .given .1) (c .before .before .before .before .before .before .cut-four .ensures)
+    move-full _ _ _ st so (c .before .before .before .before .b .given .1) (c .before .before .before .before .before .before .cut-four .ensures)
     (c .before .if1 .taken) (c .refuse2 .ensures)
 
 sub-read-triple : tie.Need-sub-read-triple
-sub-read-triple c = let k = ends-of _ (c .before .before .before .cut .given .1)
+sub-read-triple c = let k = ends-of _ (c .before .before .before .b .given .1)
     (c .before .before .before .before .before .cut-four .ensures) in omega arith
 
 part-read-triple-start : tie.Need-part-read-triple-start
 part-read-triple-start c =
-    let k = ends-of _ (c .before .before .before .cut .given .1) (c .before .before .before .before .before .cut-four .ensures) in
+    let k = ends-of _ (c .before .before .before .b .given .1) (c .before .before .before .before .before .cut-four .ensures) in
     omega arith
 
 part-read-triple-end : tie.Need-part-read-triple-end
 part-read-triple-end c =
-    let k = ends-of _ (c .before .before .before .cut .given .1) (c .before .before .before .before .before .cut-four .ensures) in
+    let k = ends-of _ (c .before .before .before .b .given .1) (c .before .before .before .before .before .cut-four .ensures) in
     omega arith
 
 add-read-triple : tie.Need-add-read-triple
 add-read-triple c =
-    let k = ends-of _ (c .before .before .before .before .cut .given .1) (c .before .before .before .before .before .before .cut-four .ensures) in
+    let k = ends-of _ (c .before .before .before .before .b .given .1) (c .before .before .before .before .before .before .cut-four .ensures) in
     omega arith
 
 sub-read-triple-2 : tie.Need-sub-read-triple-2
 sub-read-triple-2 c =
-    let k = ends-of _ (c .before .before .before .before .cut .given .1) (c .before .before .before .before .before .before .cut-four .ensures) in
+    let k = ends-of _ (c .before .before .before .before .b .given .1) (c .before .before .before .before .before .before .cut-four .ensures) in
     omega arith
 
 part-read-triple-start-2 : tie.Need-part-read-triple-start-2
 part-read-triple-start-2 c =
-    let k = ends-of _ (c .before .before .before .before .cut .given .1) (c .before .before .before .before .before .before .cut-four .ensures) in
+    let k = ends-of _ (c .before .before .before .before .b .given .1) (c .before .before .before .before .before .before .cut-four .ensures) in
     omega arith
 
 part-read-triple-end-2 : tie.Need-part-read-triple-end-2
 part-read-triple-end-2 c =
-    let k = ends-of _ (c .before .before .before .before .cut .given .1) (c .before .before .before .before .before .before .cut-four .ensures) in
+    let k = ends-of _ (c .before .before .before .before .b .given .1) (c .before .before .before .before .before .before .cut-four .ensures) in
     omega arith
 
 add-read-triple-2 : tie.Need-add-read-triple-2
 add-read-triple-2 c =
-    let k = ends-of _ (c .before .before .before .before .before .cut .given .1)
+    let k = ends-of _ (c .before .before .before .before .before .b .given .1)
     (c .before .before .before .before .before .before .before .cut-four .ensures) in
     omega arith
 
 sub-read-triple-3 : tie.Need-sub-read-triple-3
 sub-read-triple-3 c =
-    let k = ends-of _ (c .before .before .before .before .before .cut .given .1)
+    let k = ends-of _ (c .before .before .before .before .before .b .given .1)
     (c .before .before .before .before .before .before .before .cut-four .ensures) in
     omega arith
 
 part-read-triple-start-3 : tie.Need-part-read-triple-start-3
 part-read-triple-start-3 c =
-    let k = ends-of _ (c .before .before .before .before .before .cut .given .1)
+    let k = ends-of _ (c .before .before .before .before .before .b .given .1)
     (c .before .before .before .before .before .before .before .cut-four .ensures) in
     omega arith
 
 part-read-triple-end-3 : tie.Need-part-read-triple-end-3
 part-read-triple-end-3 c =
-    let k = ends-of _ (c .before .before .before .before .before .cut .given .1)
+    let k = ends-of _ (c .before .before .before .before .before .b .given .1)
     (c .before .before .before .before .before .before .before .cut-four .ensures) in
     omega arith
 
@@ -78,68 +78,68 @@ returns-3 : tie.Need-returns-3
 unfolding part
 returns-3 c =
     λ v t h st so lies.
-    move-bad _ _ _ st so (c .before .before .before .before .before .before .before .before .before .before .cut .given .1)
+    move-bad _ _ _ st so (c .before .before .before .before .before .before .before .before .before .before .b .given .1)
     (c .before .before .before .before .before .before .before .before .before .before .before .before .cut-four .ensures)
     (c .before .before .before .before .before .before .before .if1 .left) (c .before .before .before .read-triple .ensures)
     (c .before .enum-told2 .given .1) (c .refuse3 .ensures)
 
 add-keep-move : tie.Need-add-keep-move
 add-keep-move c =
-    let k = ends-of _ (c .before .before .before .before .before .before .before .before .before .before .cut .given .1)
+    let k = ends-of _ (c .before .before .before .before .before .before .before .before .before .before .b .given .1)
     (c .before .before .before .before .before .before .before .before .before .before .before .before .cut-four .ensures) in
     omega arith
 
 sub-keep-move : tie.Need-sub-keep-move
 sub-keep-move c =
-    let k = ends-of _ (c .before .before .before .before .before .before .before .before .before .before .cut .given .1)
+    let k = ends-of _ (c .before .before .before .before .before .before .before .before .before .before .b .given .1)
     (c .before .before .before .before .before .before .before .before .before .before .before .before .cut-four .ensures) in
     omega arith
 
 part-keep-move-start : tie.Need-part-keep-move-start
 part-keep-move-start c =
-    let k = ends-of _ (c .before .before .before .before .before .before .before .before .before .before .cut .given .1)
+    let k = ends-of _ (c .before .before .before .before .before .before .before .before .before .before .b .given .1)
     (c .before .before .before .before .before .before .before .before .before .before .before .before .cut-four .ensures) in
     omega arith
 
 part-keep-move-end : tie.Need-part-keep-move-end
 part-keep-move-end c =
-    let k = ends-of _ (c .before .before .before .before .before .before .before .before .before .before .cut .given .1)
+    let k = ends-of _ (c .before .before .before .before .before .before .before .before .before .before .b .given .1)
     (c .before .before .before .before .before .before .before .before .before .before .before .before .cut-four .ensures) in
     omega arith
 
 add-keep-move-2 : tie.Need-add-keep-move-2
 add-keep-move-2 c =
-    let k = ends-of _ (c .before .before .before .before .before .before .before .before .before .before .before .cut .given .1)
+    let k = ends-of _ (c .before .before .before .before .before .before .before .before .before .before .before .b .given .1)
     (c .before .before .before .before .before .before .before .before .before .before .before .before .before .cut-four .ensures) in
     omega arith
 
 add-keep-move-3 : tie.Need-add-keep-move-3
 add-keep-move-3 c =
-    let k = ends-of _ (c .before .before .before .before .before .before .before .before .before .before .before .cut .given .1)
+    let k = ends-of _ (c .before .before .before .before .before .before .before .before .before .before .before .b .given .1)
     (c .before .before .before .before .before .before .before .before .before .before .before .before .before .cut-four .ensures) in
     omega arith
 
 add-keep-move-4 : tie.Need-add-keep-move-4
 add-keep-move-4 c =
-    let k = ends-of _ (c .before .before .before .before .before .before .before .before .before .before .before .cut .given .1)
+    let k = ends-of _ (c .before .before .before .before .before .before .before .before .before .before .before .b .given .1)
     (c .before .before .before .before .before .before .before .before .before .before .before .before .before .cut-four .ensures) in
     omega arith
 
 sub-keep-move-2 : tie.Need-sub-keep-move-2
 sub-keep-move-2 c =
-    let k = ends-of _ (c .before .before .before .before .before .before .before .before .before .before .before .cut .given .1)
+    let k = ends-of _ (c .before .before .before .before .before .before .before .before .before .before .before .b .given .1)
     (c .before .before .before .before .before .before .before .before .before .before .before .before .before .cut-four .ensures) in
     omega arith
 
 part-keep-move-start-2 : tie.Need-part-keep-move-start-2
 part-keep-move-start-2 c =
-    let k = ends-of _ (c .before .before .before .before .before .before .before .before .before .before .before .cut .given .1)
+    let k = ends-of _ (c .before .before .before .before .before .before .before .before .before .before .before .b .given .1)
     (c .before .before .before .before .before .before .before .before .before .before .before .before .before .cut-four .ensures) in
     omega arith
 
 part-keep-move-end-2 : tie.Need-part-keep-move-end-2
 part-keep-move-end-2 c =
-    let k = ends-of _ (c .before .before .before .before .before .before .before .before .before .before .before .cut .given .1)
+    let k = ends-of _ (c .before .before .before .before .before .before .before .before .before .before .before .b .given .1)
     (c .before .before .before .before .before .before .before .before .before .before .before .before .before .cut-four .ensures) in
     omega arith
 
@@ -147,12 +147,12 @@ keep-move-requires : tie.Need-keep-move-requires
 unfolding part
 keep-move-requires c κs =
     let k = ends-of _
-    (c .before .before .before .before .before .before .before .before .before .before .before .before .before .before .before .cut .given .1)
+    (c .before .before .before .before .before .before .before .before .before .before .before .before .before .before .before .b .given .1)
     (c .before .before .before .before .before .before .before .before .before .before .before .before .before .before .before .before .before .cut-four .ensures) in
     let few = c .before .before .before .before .before .before .before .before .before .before .before .before .if1 .left in
     let p = c .before .before .before .before .before .before .before .before .before .before .before .before .before .before .before .before .before .before .before .before .pre in (
       action-fits _
-          (c .before .before .before .before .before .before .before .before .before .before .before .before .before .before .before .cut .given .1)
+          (c .before .before .before .before .before .before .before .before .before .before .before .before .before .before .before .b .given .1)
           (c .before .before .before .before .before .before .before .before .before .before .before .before .before .before .before .before .before .cut-four .ensures) _ _
           (p .0 .0),
       few,
@@ -165,14 +165,14 @@ unfolding part
 returns-4 c =
     λ v t h st so lies.
     move-on _ _ _ st so
-    (c .before .before .before .before .before .before .before .before .before .before .before .before .before .before .before .before .before .before .cut .given .1)
+    (c .before .before .before .before .before .before .before .before .before .before .before .before .before .before .before .before .before .before .b .given .1)
     (c .before .before .before .before .before .before .before .before .before .before .before .before .before .before .before .before .before .before .before .before .cut-four .ensures)
     (c .before .before .before .before .before .before .before .before .before .before .before .before .before .before .before .if1 .left)
     (c .before .before .before .before .before .before .before .before .before .before .before .read-triple .ensures)
     (c .before .before .before .before .before .before .before .before .before .t .given .1)
     (c .before .before .keep-move .ensures v t h st so
     (action-lies _
-    (c .before .before .before .before .before .before .before .before .before .before .before .before .before .before .before .before .before .before .cut .given .1)
+    (c .before .before .before .before .before .before .before .before .before .before .before .before .before .before .before .before .before .before .b .given .1)
     (c .before .before .before .before .before .before .before .before .before .before .before .before .before .before .before .before .before .before .before .before .cut-four .ensures)
     lies))
 
