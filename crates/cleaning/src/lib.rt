@@ -158,6 +158,15 @@ fn clean_short(text: &[u8], room: &mut [u8]) -> Answer
     requires { ⌜ length (now text) ≤ 468 ⌝ }
     ensures { λ r. ⌜ CleanPromise (now (text .entry)) (now (room .entry)) (now (room .exit)) r ⌝ }
 {
+    with_short_tables(text, room)
+}
+
+// Owns the tables for it. They are made in a function that the compiler takes into its caller: only then
+// does it clear each by one call, and not row by row.
+fn with_short_tables(text: &[u8], room: &mut [u8]) -> Answer
+    requires { ⌜ length (now text) ≤ 468 ⌝ }
+    ensures { λ r. ⌜ CleanPromise (now (text .entry)) (now (room .entry)) (now (room .exit)) r ⌝ }
+{
     let mut own = [0u8; SHORT];
     let mut moves = [[0usize; 6]; 36];
     let mut move_guards = [[0u64; 16]; 36];
@@ -176,6 +185,14 @@ fn clean_short(text: &[u8], room: &mut [u8]) -> Answer
 
 // The same for a text of middle length.
 fn clean_middle(text: &[u8], room: &mut [u8]) -> Answer
+    requires { ⌜ length (now text) ≤ 1170 ⌝ }
+    ensures { λ r. ⌜ CleanPromise (now (text .entry)) (now (room .entry)) (now (room .exit)) r ⌝ }
+{
+    with_middle_tables(text, room)
+}
+
+// Owns the tables for it, in the same way.
+fn with_middle_tables(text: &[u8], room: &mut [u8]) -> Answer
     requires { ⌜ length (now text) ≤ 1170 ⌝ }
     ensures { λ r. ⌜ CleanPromise (now (text .entry)) (now (room .entry)) (now (room .exit)) r ⌝ }
 {
@@ -200,6 +217,14 @@ fn clean_long(text: &[u8], room: &mut [u8]) -> Answer
     requires { ⌜ length (now text) ≤ 1872 ⌝ }
     ensures { λ r. ⌜ CleanPromise (now (text .entry)) (now (room .entry)) (now (room .exit)) r ⌝ }
 {
+    with_long_tables(text, room)
+}
+
+// Owns the tables for it, in the same way.
+fn with_long_tables(text: &[u8], room: &mut [u8]) -> Answer
+    requires { ⌜ length (now text) ≤ 1872 ⌝ }
+    ensures { λ r. ⌜ CleanPromise (now (text .entry)) (now (room .entry)) (now (room .exit)) r ⌝ }
+{
     let mut own = [0u8; OWN_BYTES];
     let mut moves = [[0usize; 6]; 144];
     let mut move_guards = [[0u64; 16]; 144];
@@ -218,6 +243,13 @@ fn clean_long(text: &[u8], room: &mut [u8]) -> Answer
 
 // The same for every text.
 fn clean_large(text: &[u8], room: &mut [u8]) -> Answer
+    ensures { λ r. ⌜ CleanPromise (now (text .entry)) (now (room .entry)) (now (room .exit)) r ⌝ }
+{
+    with_large_tables(text, room)
+}
+
+// Owns the tables for it, in the same way.
+fn with_large_tables(text: &[u8], room: &mut [u8]) -> Answer
     ensures { λ r. ⌜ CleanPromise (now (text .entry)) (now (room .entry)) (now (room .exit)) r ⌝ }
 {
     let mut own = [0u8; OWN_BYTES];

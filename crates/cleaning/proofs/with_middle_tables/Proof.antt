@@ -1,15 +1,15 @@
--- `clean_large`: 256 and 64 rows are enough for every text. Assumes nothing.
+-- `with_middle_tables`: 90 and 64 rows are enough for 1,170 bytes. Assumes nothing.
 use mathlib.Core.Path.{refl}
 use native.Mathlib.Omega.{arith}
 use borrow.Author.Needs.{needs}
-use Rattle.cleaning.proofs.clean_large.Statement.{statement}
-use Rattle.cleaning.proofs.clean_large.Tie as tie
+use Rattle.cleaning.proofs.with_middle_tables.Statement.{statement}
+use Rattle.cleaning.proofs.with_middle_tables.Tie as tie
 
 clean-by-requires : tie.Need-clean-by-requires
 clean-by-requires c κs = (refl, (omega arith, omega arith, omega arith, omega arith))
 
-pub clean-large-spec : {M : Type 1} → statement M
-clean-large-spec =
+pub with-middle-tables-spec : {M : Type 1} → statement M
+with-middle-tables-spec =
     tie.close
     (tie.spec
     (λ c. search needs)
