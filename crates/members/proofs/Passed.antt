@@ -9,9 +9,7 @@ use native.Mathlib.Omega.{arith}
 use native.Mathlib.Numerals.{add-one}
 use borrow.Author.Count.{below-more}
 use lib.ListN.{getD}
-use Rattle.products.specs.declared.Found.{Found}
-use Rattle.products.specs.declared.Found.the-variants.{At, Nothing}
-use Rattle.products.specs.Sets.{bit, has, In, Picked, InBoth, Least, Finds}
+use Rattle.products.specs.Sets.{bit, has, Picked, Least}
 use Rattle.products.proofs.Bits.{bit-suc, zero-bit}
 use Rattle.products.proofs.Laws.{has-at}
 
@@ -72,8 +70,3 @@ module _ {y : ℕ} {a b : List ℕ} {w : ℕ} where
         upto : (k : ℕ) → k ≤ 64 → Passed y a b w k
         upto zero le = h
         upto (suc k) le = rw (← add-one k) (passed-bit (upto k (omega arith)) le (rw e (λ o. omega (arith, zero-bit k))))
-
--- what s and s both have is what s has
-pub least-same : (s : List ℕ) (f : Found) → Finds _≤_ (InBoth s s) f → Finds _≤_ (In s) f
-least-same s (At p) l = record { is = l .is .first; first = λ q i. l .first q (record { first = i; second = i .is }) }
-least-same s Nothing none = λ q i. none q (record { first = i; second = i .is })

@@ -1,5 +1,5 @@
-// What a set of products has: whether it has one, how many, which is the least; whether two sets are the
-// same, share a product, or the first has one that the second has not.
+// What sets of products have: whether a set has one, and how many; of two sets the least that they share, or
+// that the first alone has, and whether there is one; whether they are the same.
 ghost use mathlib.Core.Path.{_≡_};
 ghost use mathlib.Core.Bool.{true, false, not};
 ghost use Prim.Native.Nat.{ℕ, _+_, _*_, _<_, _≤_};
@@ -30,16 +30,6 @@ pub fn count(s: [u64; 16]) -> usize
         i += 1;
     }
     n
-}
-
-// The smallest product that s has.
-pub fn least(s: [u64; 16]) -> Found
-    ensures { λ r. ⌜ Finds _≤_ (In s) r ⌝ }
-{
-    if is_empty(s) {
-        return Found::Nothing;
-    }
-    search(&s, &s, false)
 }
 
 // The smallest product that a and b both have.

@@ -13,7 +13,7 @@ use Rattle.products.proofs.Laws.{same-members}
 pub members-determine : (f : ℕ → ℕ) (r r′ : List ℕ) → Words r → Words r′ → ((p : ℕ) → p < 1024 → has r p ≡ f p) → ((p : ℕ) → p < 1024 → has r′ p ≡ f p) → r ≡ r′
 members-determine f r r′ w w′ h h′ = same-members w w′ (λ p lp. h p lp ∙ sym (h′ p lp))
 
--- of `least`, and of any other search for the first product with a property P
+-- of a search for the first product with a property P
 pub found-determined : (P : ℕ → Type 0) (r r′ : Found) → Finds _≤_ P r → Finds _≤_ P r′ → r ≡ r′
 found-determined P (At p) (At q) h h′ = ap At (omega (arith, h .first q (h′ .is), h′ .first p (h .is)))
 found-determined P (At p) Nothing h h′ = absurd (h′ p (h .is))
