@@ -9,7 +9,7 @@ ghost use lib.ListN.{length, getD, replicate};
 ghost use Rattle.text.specs.Text.{Wrote};
 ghost use Rattle.guards.specs.Reading.{namesOf};
 ghost use Rattle.sheet.specs.Sheet.{Move, Stop, Sheet};
-ghost use Rattle.sheet.specs.Tables.{Rows, tables, blankTables, ReadsSheet};
+ghost use Rattle.sheet.specs.Tables.{Rows, tables, blankTables, ReadInto};
 ghost use Rattle.sheet.specs.Spelling.{featureFields, moveRow, stopRow, textOf};
 ghost use Rattle.family.specs.Rounds.{stepAt, toAt, highestTo, Spread};
 ghost use Rattle.cleaning.specs.Forms.{linesOf, RowMove, RowsWithin, StopAt, StopsBelow, FormOf, Prepared};
@@ -310,7 +310,7 @@ fn clean_read(
     moves: &[[usize; 6]],
     guards: &[[u64; 16]],
 ) -> Answer
-    ensures { λ r. ⌜ ((t h : List (List ℕ)) → ReadsSheet (now (text .entry)) (tables (now (names .entry)) valid (now (moves .entry)) (now (guards .entry)) t h) (SheetRead.Kept c) → CleanPromise (now (text .entry)) (now (room .entry)) (now (room .exit)) r) ⌝ }
+    ensures { λ r. ⌜ ((t h : List (List ℕ)) → ReadInto (now (text .entry)) (tables (now (names .entry)) valid (now (moves .entry)) (now (guards .entry)) t h) c → CleanPromise (now (text .entry)) (now (room .entry)) (now (room .exit)) r) ⌝ }
 {
     if family::highest(c.start, c.moves, moves) < LOW {
         return clean_low(text, own, room, c, names, valid, moves, guards);
@@ -330,7 +330,7 @@ fn clean_low(
     guards: &[[u64; 16]],
 ) -> Answer
     requires { ⌜ highestTo (c .start % 64) (toAt (now moves)) (min (min (c .moves) 256) (length (now moves))) < 8 ⌝ }
-    ensures { λ r. ⌜ ((t h : List (List ℕ)) → ReadsSheet (now (text .entry)) (tables (now (names .entry)) valid (now (moves .entry)) (now (guards .entry)) t h) (SheetRead.Kept c) → CleanPromise (now (text .entry)) (now (room .entry)) (now (room .exit)) r) ⌝ }
+    ensures { λ r. ⌜ ((t h : List (List ℕ)) → ReadInto (now (text .entry)) (tables (now (names .entry)) valid (now (moves .entry)) (now (guards .entry)) t h) c → CleanPromise (now (text .entry)) (now (room .entry)) (now (room .exit)) r) ⌝ }
 {
     let mut sets = [[0u64; 16]; 8];
     family::spread_low(c.start, valid, c.moves, moves, guards, &mut sets);
@@ -348,7 +348,7 @@ fn clean_high(
     moves: &[[usize; 6]],
     guards: &[[u64; 16]],
 ) -> Answer
-    ensures { λ r. ⌜ ((t h : List (List ℕ)) → ReadsSheet (now (text .entry)) (tables (now (names .entry)) valid (now (moves .entry)) (now (guards .entry)) t h) (SheetRead.Kept c) → CleanPromise (now (text .entry)) (now (room .entry)) (now (room .exit)) r) ⌝ }
+    ensures { λ r. ⌜ ((t h : List (List ℕ)) → ReadInto (now (text .entry)) (tables (now (names .entry)) valid (now (moves .entry)) (now (guards .entry)) t h) c → CleanPromise (now (text .entry)) (now (room .entry)) (now (room .exit)) r) ⌝ }
 {
     let mut sets = [[0u64; 16]; 64];
     family::spread(c.start, valid, c.moves, moves, guards, &mut sets);
@@ -367,7 +367,7 @@ fn clean_by_sets(
     guards: &[[u64; 16]],
     sets: &[[u64; 16]],
 ) -> Answer
-    ensures { λ r. ⌜ ((t h : List (List ℕ)) (depth : ℕ) → ReadsSheet (now (text .entry)) (tables (now (names .entry)) valid (now (moves .entry)) (now (guards .entry)) t h) (SheetRead.Kept c) → Spread (c .start % 64) valid (stepAt (now (moves .entry)) (now (guards .entry))) (min (min (min (c .moves) 256) (length (now (moves .entry)))) (length (now (guards .entry)))) (now (sets .entry)) depth → CleanPromise (now (text .entry)) (now (room .entry)) (now (room .exit)) r) ⌝ }
+    ensures { λ r. ⌜ ((t h : List (List ℕ)) (depth : ℕ) → ReadInto (now (text .entry)) (tables (now (names .entry)) valid (now (moves .entry)) (now (guards .entry)) t h) c → Spread (c .start % 64) valid (stepAt (now (moves .entry)) (now (guards .entry))) (min (min (min (c .moves) 256) (length (now (moves .entry)))) (length (now (guards .entry)))) (now (sets .entry)) depth → CleanPromise (now (text .entry)) (now (room .entry)) (now (room .exit)) r) ⌝ }
 {
     let mut order = [0u8; 256];
     let kept = ordering::order_moves(text, c.moves, moves, guards, sets, &mut order);

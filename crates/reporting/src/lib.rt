@@ -12,7 +12,7 @@ ghost use Rattle.text.specs.Text.{Wrote};
 ghost use Rattle.products.specs.Sets.{bit, has, oneIf};
 ghost use Rattle.sheet.specs.Sheet.{Sheet};
 ghost use Rattle.sheet.specs.Reading.{kept, readSheet};
-ghost use Rattle.sheet.specs.Tables.{tables, ReadsSheet};
+ghost use Rattle.sheet.specs.Tables.{tables, ReadInto};
 ghost use Rattle.verdicts.specs.Verdicts.{Named};
 ghost use Rattle.verdicts.specs.Judging.{MoveSets, StateSets, StopSets, guardsAt, rowAt};
 ghost use Rattle.family.specs.Ways.{Depth};
@@ -325,7 +325,7 @@ fn report_low(
     stop_guards: &[[u64; 16]],
 ) -> Answer
     requires { ⌜ highestTo (c .start % 64) (toAt (now moves)) (min (min (c .moves) 256) (length (now moves))) < 8 ⌝ }
-    ensures { λ a. ⌜ ((s : List ℕ) (n : List (List ℕ)) → ReadsSheet s (tables n valid (now (moves .entry)) (now («move_guards» .entry)) (now (stops .entry)) (now («stop_guards» .entry))) (SheetRead.Kept c) → ReportPromise s (now (room .entry)) (now (room .exit)) a) ⌝ }
+    ensures { λ a. ⌜ ((s : List ℕ) (n : List (List ℕ)) → ReadInto s (tables n valid (now (moves .entry)) (now («move_guards» .entry)) (now (stops .entry)) (now («stop_guards» .entry))) c → ReportPromise s (now (room .entry)) (now (room .exit)) a) ⌝ }
 {
     let mut sets = [[0u64; 16]; 8];
     let depth = family::spread_low(c.start, valid, c.moves, moves, move_guards, &mut sets);
@@ -356,7 +356,7 @@ fn report_high(
     stops: &[[usize; 2]],
     stop_guards: &[[u64; 16]],
 ) -> Answer
-    ensures { λ a. ⌜ ((s : List ℕ) (n : List (List ℕ)) → ReadsSheet s (tables n valid (now (moves .entry)) (now («move_guards» .entry)) (now (stops .entry)) (now («stop_guards» .entry))) (SheetRead.Kept c) → ReportPromise s (now (room .entry)) (now (room .exit)) a) ⌝ }
+    ensures { λ a. ⌜ ((s : List ℕ) (n : List (List ℕ)) → ReadInto s (tables n valid (now (moves .entry)) (now («move_guards» .entry)) (now (stops .entry)) (now («stop_guards» .entry))) c → ReportPromise s (now (room .entry)) (now (room .exit)) a) ⌝ }
 {
     let mut sets = [[0u64; 16]; 64];
     let depth = family::spread(c.start, valid, c.moves, moves, move_guards, &mut sets);

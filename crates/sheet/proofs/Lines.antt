@@ -7,7 +7,7 @@ use Prim.Native.Nat.{ℕ, _+_, _≤_, _<_, min}
 use native.Mathlib.Omega.{arith}
 use borrow.Author.Tests.{not-true, not-false, le-leb, lt-leb}
 use lib.Dec.{leb}
-use lib.ListN.{length, drop, set}
+use lib.ListN.{length, drop, set, length-set}
 use Rattle.products.specs.declared.Found.{Found}
 use Rattle.products.specs.declared.Found.the-variants.{At, Nothing}
 use Rattle.fields.specs.declared.Number.{Number}
@@ -105,7 +105,7 @@ features-counted so = rows-length (so .filled .names .rows)
 -- the set of valid products has no part in the rows
 pub filled-still : {s : List ℕ} {nm : List (List ℕ)} {v w : List ℕ} {m g t d : List (List ℕ)} {i j k : ℕ} {fs : List Feature} {ms : List Move} {ds : List Stop}
     → Filled s (tables nm v m g t d) i j k fs ms ds → Filled s (tables nm w m g t d) i j k fs ms ds
-filled-still h = record { names = h .names; moves = h .moves; moveGuards = h .moveGuards; stops = h .stops; stopGuards = h .stopGuards }
+filled-still h = record { ten = h .ten; names = h .names; moves = h .moves; moveGuards = h .moveGuards; stops = h .stops; stopGuards = h .stopGuards }
 
 module _ (n : ℕ) (ns : List (List ℕ)) (x : List ℕ) (rd : GuardRead) (set : List ℕ) (h : Reads x 0 rd set (readWhole ns x)) (k : Guard → Answer State) where
   pub guard-refused : {e p : ℕ} → rd ≡ guard.Refused e p → guarded n (readWhole ns x) k ≡ refused e n
@@ -173,7 +173,8 @@ feature-kept l o h n at st e so few k t q a lies =
       few = so .few;
       stopsFew = so .stopsFew;
       filled = record {
-        names = table-put (so .filled .names) few (record { lies = lies; is = refl });
+        ten = simp length-set (so .filled .ten);
+        names = table-put (so .filled .names) (omega (arith, so .filled .ten)) (record { lies = lies; is = refl });
         moves = so .filled .moves;
         moveGuards = so .filled .moveGuards;
         stops = so .filled .stops;

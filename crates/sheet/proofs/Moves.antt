@@ -34,7 +34,7 @@ use Rattle.sheet.specs.Sheet.{Move, Stop, names}
 use Rattle.sheet.specs.Reading.{State, Answer, refuseIf, guarded, moved, stopped, keep, withMove, withStop, guardedMove, moveLine, stopLine}
 use Rattle.sheet.specs.Tables.{Tables, tables, Lies, Rows, plainOf, MoveRow, StopRow}
 use Rattle.sheet.specs.Inside.{Tells, Marked, TripledIn, Tripled, Stands, Says}
-use Rattle.sheet.proofs.Rows.{rows-length, own-put}
+use Rattle.sheet.proofs.Rows.{rows-length, table-put}
 use Rattle.sheet.proofs.Apart.{stops-fit}
 use Rattle.sheet.proofs.Lines.{refuses, keeps, guard-stands, guard-refused, guard-taken}
 
@@ -121,9 +121,10 @@ module _ (n : ℕ) (st : State) (from : ℕ) (action : List ℕ) (place to : ℕ
           few = omega arith;
           stopsFew = so .stopsFew;
           filled = record {
+            ten = so .filled .ten;
             names = so .filled .names;
-            moves = own-put (so .filled .moves) mine (record { lies = lies; is = ap (λ (z : ℕ). n ∷ from ∷ place ∷ (place + length action) ∷ to ∷ z ∷ []) k });
-            moveGuards = own-put (so .filled .moveGuards) yours (w .2);
+            moves = table-put (so .filled .moves) mine (record { lies = lies; is = ap (λ (z : ℕ). n ∷ from ∷ place ∷ (place + length action) ∷ to ∷ z ∷ []) k });
+            moveGuards = table-put (so .filled .moveGuards) yours (w .2);
             stops = so .filled .stops;
             stopGuards = so .filled .stopGuards;
           };
@@ -291,11 +292,12 @@ module _ (l : List ℕ) (n : ℕ) (st : State) where
               few = so .few;
               stopsFew = let j = fits i in omega arith;
               filled = record {
+                ten = so .filled .ten;
                 names = so .filled .names;
                 moves = so .filled .moves;
                 moveGuards = so .filled .moveGuards;
-                stops = own-put (so .filled .stops) mine refl;
-                stopGuards = own-put (so .filled .stopGuards) yours (z .2);
+                stops = table-put (so .filled .stops) mine refl;
+                stopGuards = table-put (so .filled .stopGuards) yours (z .2);
               };
               marked = so .marked;
             }))

@@ -52,33 +52,23 @@ module _ {A : Type 0} where
 
 -- ---- tables
 
-module _ {A : Type 0} {R : List ℕ → A → Type 0} {blank : List ℕ} {most : ℕ} where
-  pub table-blank : Table R blank most (replicate most blank) 0 []
-  table-blank = record { long = simp length-replicate; few = omega arith; rows = none; rest = λ i l h. getD-replicate most i blank [] h }
+module _ {A : Type 0} {R : List ℕ → A → Type 0} {blank : List ℕ} where
+  pub table-blank : (n : ℕ) → Table R blank (replicate n blank) 0 []
+  table-blank n =
+      record { few = omega arith; rows = none; rest = λ i l h. getD-replicate n i blank [] (omega (arith, length-replicate n blank)) }
 
-  pub table-put : {t : List (List ℕ)} {k : ℕ} {xs : List A} {row : List ℕ} {x : A} → Table R blank most t k xs → k < most → R row x
-      → Table R blank most (set t k row) (k + 1) (x ∷ xs)
+  pub table-put : {t : List (List ℕ)} {k : ℕ} {xs : List A} {row : List ℕ} {x : A} → Table R blank t k xs → k < length t → R row x
+      → Table R blank (set t k row) (k + 1) (x ∷ xs)
   table-put {t} {k} {xs} {row} {x} h lt r =
-      let long = h .long in
+      let long : length (set t k row) ≡ length t = length-set t k row in
       record {
-        long = simp length-set long;
         few = omega arith;
         rows =
             rw (add-one k)
             (next {k = k} {x = x} (rw (getD-set-same t k row [] (omega arith)) r)
             (rows-keep (λ i y l q. rw (getD-set-other t k i row [] (omega arith)) q) (h .rows)));
-        rest = λ i l m. rw (getD-set-other t k i row [] (omega arith)) (h .rest i (omega arith) m);
+        rest = λ i l m. rw (getD-set-other t k i row [] (omega arith)) (h .rest i (omega arith) (omega arith));
       }
-
--- the same where the number of rows is the table's own length
-module _ {A : Type 0} {R : List ℕ → A → Type 0} {blank : List ℕ} where
-  pub own-blank : (n : ℕ) → Table R blank (length (replicate n blank)) (replicate n blank) 0 []
-  own-blank n = subst (λ (k : ℕ). Table R blank k (replicate n blank) 0 []) (sym (length-replicate n blank)) table-blank
-
-  pub own-put : {t : List (List ℕ)} {k : ℕ} {xs : List A} {row : List ℕ} {x : A} → Table R blank (length t) t k xs → k < length t → R row x
-      → Table R blank (length (set t k row)) (set t k row) (k + 1) (x ∷ xs)
-  own-put {t} {k} {xs} {row} {x} h lt r =
-      subst (λ (n : ℕ). Table R blank n (set t k row) (k + 1) (x ∷ xs)) (sym (length-set t k row)) (table-put h lt r)
 
 -- the first i rows have been made blank
 pub record Cleared (blank : List ℕ) (t u : List (List ℕ)) (i : ℕ) : Type 0 where

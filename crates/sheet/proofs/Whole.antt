@@ -26,9 +26,9 @@ use Rattle.sheet.specs.declared.SheetRead.{SheetRead}
 use Rattle.sheet.specs.declared.SheetRead.the-variants as whole
 use Rattle.sheet.specs.Sheet.{Sheet, isValid}
 use Rattle.sheet.specs.Reading.{State, Answer, refused, goOn, kindIn, byKind, byWord, ftsLine, featureLine, validLine, startLine, moveLine, stopLine, readLine, ended, readLines, nothing, last, readSheet}
-use Rattle.sheet.specs.Tables.{Tables, tables, blankTables, Lies, ReadsSheet}
+use Rattle.sheet.specs.Tables.{Tables, tables, blankTables, Lies, Sized, ReadsSheet}
 use Rattle.sheet.specs.Inside.{Stands, Says, SaysIn, Ends, EndsIn}
-use Rattle.sheet.proofs.Rows.{rows-length, table-blank, own-blank}
+use Rattle.sheet.proofs.Rows.{rows-length, table-blank}
 use Rattle.sheet.proofs.Marks.{marked-none}
 use Rattle.sheet.proofs.ValidProducts.{none-true, valid-found}
 use Rattle.sheet.proofs.Lines.{features-counted, filled-still}
@@ -175,7 +175,7 @@ going-from m g t h b e =
         apart = tt;
         few = omega arith;
         stopsFew = omega arith;
-        filled = record { names = table-blank; moves = own-blank m; moveGuards = own-blank g; stops = own-blank t; stopGuards = own-blank h };
+        filled = record { ten = refl; names = table-blank 10; moves = table-blank m; moveGuards = table-blank g; stops = table-blank t; stopGuards = table-blank h };
         marked = marked-none;
       };
       left = refl;
@@ -250,14 +250,18 @@ blank-own m g t h e =
     subst Blank (sym e)
     (rw (length-replicate m (replicate {A = ℕ} 6 0), length-replicate g (replicate {A = ℕ} 16 0), length-replicate t (replicate {A = ℕ} 2 0), length-replicate h (replicate {A = ℕ} 16 0)))
 
-pub blank-lengths : {T : Tables} (m g t h : ℕ) → T ≡ blankTables m g t h
-    → (length (T .moves) ≡ m) × (length (T .moveGuards) ≡ g) × (length (T .stops) ≡ t) × (length (T .stopGuards) ≡ h)
-blank-lengths m g t h e = (
-  ap (λ (T : Tables). length (T .moves)) e ∙ length-replicate m (replicate {A = ℕ} 6 0),
-  ap (λ (T : Tables). length (T .moveGuards)) e ∙ length-replicate g (replicate {A = ℕ} 16 0),
-  ap (λ (T : Tables). length (T .stops)) e ∙ length-replicate t (replicate {A = ℕ} 2 0),
-  ap (λ (T : Tables). length (T .stopGuards)) e ∙ length-replicate h (replicate {A = ℕ} 16 0),
-)
+pub blank-sized : {T : Tables} (m g t h : ℕ) → T ≡ blankTables m g t h → Sized m g t h T
+blank-sized m g t h e =
+    record {
+      moves = ap (λ (T : Tables). length (T .moves)) e ∙ length-replicate m (replicate {A = ℕ} 6 0);
+      moveGuards = ap (λ (T : Tables). length (T .moveGuards)) e ∙ length-replicate g (replicate {A = ℕ} 16 0);
+      stops = ap (λ (T : Tables). length (T .stops)) e ∙ length-replicate t (replicate {A = ℕ} 2 0);
+      stopGuards = ap (λ (T : Tables). length (T .stopGuards)) e ∙ length-replicate h (replicate {A = ℕ} 16 0);
+    }
+
+-- tables have as many rows as they have
+pub own-sized : (T : Tables) → Sized (length (T .moves)) (length (T .moveGuards)) (length (T .stops)) (length (T .stopGuards)) T
+own-sized T = record { moves = refl; moveGuards = refl; stops = refl; stopGuards = refl }
 
 same-lent : {n : List (List ℕ)} {v : List ℕ} {a b c d m g t h : List (List ℕ)} → m ≡ a → g ≡ b → t ≡ c → h ≡ d → tables n v m g t h ≡ tables n v a b c d
 same-lent {n} {v} p q r u i = record { names = n; valid = v; moves = p i; moveGuards = q i; stops = r i; stopGuards = u i }
@@ -276,24 +280,29 @@ module _ (s : List ℕ) where
   unfolding readSheet
   read-empty h = rw (le-ltb 65536 (length s) (omega arith), last-none s h)
 
-  pub sheet-long : {T : Tables} {r : SheetRead} → Blank T → 65536 < length s → r ≡ whole.Refused 1 0 → ReadsSheet s T r
-  sheet-long b h z = rw z (read-long h, b)
+  -- the reader's promise, for tables T that are lent with so many rows
+  module _ {m g t h : ℕ} {T : Tables} (lent : Sized m g t h T) where
+    blank-lent : Blank T → T ≡ blankTables m g t h
+    blank-lent b = b ∙ rw (lent .moves, lent .moveGuards, lent .stops, lent .stopGuards)
 
-  pub sheet-empty : {T : Tables} {r : SheetRead} → Blank T → length s ≡ 0 → r ≡ whole.Refused 2 0 → ReadsSheet s T r
-  sheet-empty b h z = rw z (read-empty h, b)
+    pub sheet-long : {r : SheetRead} → Blank T → 65536 < length s → r ≡ whole.Refused 1 0 → ReadsSheet m g t h s T r
+    sheet-long b l z = rw z (read-long l, blank-lent b)
 
-  module _ (l : length s ≤ 65536) (h : length s ≡ 0 → ⊥) where
-    pub sheet-open : {T : Tables} {r : SheetRead} → Blank T → (getD s (length s - 1) 0 ≡ 10 → ⊥) → r ≡ whole.Refused 2 0 → ReadsSheet s T r
-    unfolding readSheet
-    sheet-open b e z = rw z (rw (le-ltb 65536 (length s) l, last-at 0 s (omega arith), ne-eqb (getD s (length s - 1) 0) 10 e), b)
+    pub sheet-empty : {r : SheetRead} → Blank T → length s ≡ 0 → r ≡ whole.Refused 2 0 → ReadsSheet m g t h s T r
+    sheet-empty b l z = rw z (read-empty l, blank-lent b)
 
-    module _ (e : getD s (length s - 1) 0 ≡ 10) where
-      begins : readSheet s ≡ fromTop s
+    module _ (l : length s ≤ 65536) (some : length s ≡ 0 → ⊥) where
+      pub sheet-open : {r : SheetRead} → Blank T → (getD s (length s - 1) 0 ≡ 10 → ⊥) → r ≡ whole.Refused 2 0 → ReadsSheet m g t h s T r
       unfolding readSheet
-      begins = rw (le-ltb 65536 (length s) l, last-at 0 s (omega arith), eq-eqb (getD s (length s - 1) 0) 10 e)
+      sheet-open b e z = rw z (rw (le-ltb 65536 (length s) l, last-at 0 s (omega arith), ne-eqb (getD s (length s - 1) 0) 10 e), blank-lent b)
 
-      pub sheet-refused : {T U : Tables} {r : SheetRead} {i k : ℕ} → Ends s U r (fromTop s) → r ≡ whole.Refused i k → Blank T → ReadsSheet s T r
-      sheet-refused f z b = rw z (begins ∙ ends-as z f, b)
+      module _ (e : getD s (length s - 1) 0 ≡ 10) where
+        begins : readSheet s ≡ fromTop s
+        unfolding readSheet
+        begins = rw (le-ltb 65536 (length s) l, last-at 0 s (omega arith), eq-eqb (getD s (length s - 1) 0) 10 e)
 
-      pub sheet-kept : {T : Tables} {r : SheetRead} {c : Counts} → Ends s T r (fromTop s) → r ≡ whole.Kept c → ReadsSheet s T r
-      sheet-kept f z = let y = ends-as z f in rw z (y .0, begins ∙ y .1, y .2)
+        pub sheet-refused : {U : Tables} {r : SheetRead} {i k : ℕ} → Ends s U r (fromTop s) → r ≡ whole.Refused i k → Blank T → ReadsSheet m g t h s T r
+        sheet-refused f z b = rw z (begins ∙ ends-as z f, blank-lent b)
+
+        pub sheet-kept : {r : SheetRead} {c : Counts} → Ends s T r (fromTop s) → r ≡ whole.Kept c → ReadsSheet m g t h s T r
+        sheet-kept f z = let y = ends-as z f in rw z ((y .0, begins ∙ y .1, y .2), lent)

@@ -34,12 +34,11 @@ pub data Rows {A : Type 0} (R : ℕ → A → Type 0) : ℕ → List A → Type 
   none : Rows R zero []
   next : {k : ℕ} {x : A} {xs : List A} → R k x → Rows R k xs → Rows R (suc k) (x ∷ xs)
 
--- a table of `most` rows, of which the first k are for the list xs, and the others blank
-pub record Table {A : Type 0} (R : List ℕ → A → Type 0) (blank : List ℕ) (most : ℕ) (t : List (List ℕ)) (k : ℕ) (xs : List A) : Type 0 where
-  pub long : length t ≡ most
-  pub few : k ≤ most
+-- a table of which the first k rows are for the list xs, and the others blank
+pub record Table {A : Type 0} (R : List ℕ → A → Type 0) (blank : List ℕ) (t : List (List ℕ)) (k : ℕ) (xs : List A) : Type 0 where
+  pub few : k ≤ length t
   pub rows : Rows (λ i x. R (getD t i []) x) k xs
-  pub rest : (i : ℕ) → k ≤ i → i < most → getD t i [] ≡ blank
+  pub rest : (i : ℕ) → k ≤ i → i < length t → getD t i [] ≡ blank
 
 -- a feature's row: the name's place, and the place behind it
 pub record FeatureRow (s row : List ℕ) (f : Feature) : Type 0 where
@@ -66,11 +65,12 @@ StopRow row d = row ≡ d .line ∷ d .state ∷ []
 
 -- the tables' first f, k and d rows are for these features, moves and stops; the guards' sets have exactly the products in which the guards hold
 pub record Filled (s : List ℕ) (T : Tables) (f k d : ℕ) (fs : List Feature) (ms : List Move) (ds : List Stop) : Type 0 where
-  pub names : Table (FeatureRow s) (replicate 2 0) 10 (T .names) f fs
-  pub moves : Table (MoveRow s) (replicate 6 0) (length (T .moves)) (T .moves) k ms
-  pub moveGuards : Table (λ set m. Means set (m .guard)) (replicate 16 0) (length (T .moveGuards)) (T .moveGuards) k ms
-  pub stops : Table StopRow (replicate 2 0) (length (T .stops)) (T .stops) d ds
-  pub stopGuards : Table (λ set d. Means set (d .guard)) (replicate 16 0) (length (T .stopGuards)) (T .stopGuards) d ds
+  pub ten : length (T .names) ≡ 10
+  pub names : Table (FeatureRow s) (replicate 2 0) (T .names) f fs
+  pub moves : Table (MoveRow s) (replicate 6 0) (T .moves) k ms
+  pub moveGuards : Table (λ set m. Means set (m .guard)) (replicate 16 0) (T .moveGuards) k ms
+  pub stops : Table StopRow (replicate 2 0) (T .stops) d ds
+  pub stopGuards : Table (λ set d. Means set (d .guard)) (replicate 16 0) (T .stopGuards) d ds
 
 -- ---- what the outermost reader promises
 
@@ -82,13 +82,25 @@ pub record StandsFor (s : List ℕ) (T : Tables) (c : Counts) (r : Sheet) : Type
   pub stopsFew : c .stops ≤ 64
   pub filled : Filled s T (c .features) (c .moves) (c .stops) (r .features) (r .moves) (r .stops)
 
+-- the sheet is accepted, and the tables stand for it
+abbrev pub ReadInto : List ℕ → Tables → Counts → Type 0
+ReadInto s T c = (r : Sheet) × (readSheet s ≡ kept r) × StandsFor s T c r
+
+-- the tables of moves and of stops, and those of their guards' sets, have so many rows
+pub record Sized (m g t h : ℕ) (T : Tables) : Type 0 where
+  pub moves : length (T .moves) ≡ m
+  pub moveGuards : length (T .moveGuards) ≡ g
+  pub stops : length (T .stops) ≡ t
+  pub stopGuards : length (T .stopGuards) ≡ h
+
 -- no row of any table; all but the names have these lengths
 abbrev pub blankTables : ℕ → ℕ → ℕ → ℕ → Tables
 blankTables m g t h =
     tables (replicate 10 (replicate 2 0)) (replicate 16 0) (replicate m (replicate 6 0)) (replicate g (replicate 16 0)) (replicate t (replicate 2 0))
     (replicate h (replicate 16 0))
 
--- refused as the definition refuses, and the tables blank; or kept, and the tables stand for the definition's sheet
-abbrev pub ReadsSheet : List ℕ → Tables → SheetRead → Type 0
-ReadsSheet s T (whole.Kept c) = (r : Sheet) × (readSheet s ≡ kept r) × StandsFor s T c r
-ReadsSheet s T (whole.Refused e n) = (readSheet s ≡ refused e n) × (T ≡ blankTables (length (T .moves)) (length (T .moveGuards)) (length (T .stops)) (length (T .stopGuards)))
+-- of tables that are lent with m, g, t and h rows: refused as the definition refuses, and all of them blank; or kept, and they stand for the
+-- definition's sheet
+abbrev pub ReadsSheet : ℕ → ℕ → ℕ → ℕ → List ℕ → Tables → SheetRead → Type 0
+ReadsSheet m g t h s T (whole.Kept c) = ReadInto s T c × Sized m g t h T
+ReadsSheet m g t h s T (whole.Refused e n) = (readSheet s ≡ refused e n) × (T ≡ blankTables m g t h)

@@ -84,7 +84,7 @@ pub fn read_sheet(
     stops: &mut [[usize; 2]; 64],
     stop_guards: &mut [[u64; 16]; 64],
 ) -> SheetRead
-    ensures { λ r. ⌜ ReadsSheet (now (text .entry)) (tables (now (names .exit)) (now (valid .exit)) (now (moves .exit)) (now («move_guards» .exit)) (now (stops .exit)) (now («stop_guards» .exit))) r ⌝ }
+    ensures { λ r. ⌜ ReadsSheet 256 256 64 64 (now (text .entry)) (tables (now (names .exit)) (now (valid .exit)) (now (moves .exit)) (now («move_guards» .exit)) (now (stops .exit)) (now («stop_guards» .exit))) r ⌝ }
 {
     clear(names, valid, moves, move_guards, stops, stop_guards);
     read_blank(text, names, valid, moves, move_guards, stops, stop_guards)
@@ -104,7 +104,7 @@ pub fn read_blank(
 ) -> SheetRead
     requires { ⌜ tables (now names) (now valid) (now moves) (now «move_guards») (now stops) (now «stop_guards») ≡ blankTables (length (now moves)) (length (now «move_guards»)) (length (now stops)) (length (now «stop_guards»)) ⌝ }
     requires { ⌜ (min (length (now text)) 3328 ≤ 13 * length (now moves)) × (min (length (now text)) 3328 ≤ 13 * length (now «move_guards»)) × (min (length (now text)) 576 ≤ 9 * length (now stops)) × (min (length (now text)) 576 ≤ 9 * length (now «stop_guards»)) ⌝ }
-    ensures { λ r. ⌜ ReadsSheet (now (text .entry)) (tables (now (names .exit)) (now (valid .exit)) (now (moves .exit)) (now («move_guards» .exit)) (now (stops .exit)) (now («stop_guards» .exit))) r ⌝ }
+    ensures { λ r. ⌜ ReadsSheet (length (now (moves .entry))) (length (now («move_guards» .entry))) (length (now (stops .entry))) (length (now («stop_guards» .entry))) (now (text .entry)) (tables (now (names .exit)) (now (valid .exit)) (now (moves .exit)) (now («move_guards» .exit)) (now (stops .exit)) (now («stop_guards» .exit))) r ⌝ }
 {
     if MOST_BYTES < text.len() {
         return refuse_sheet(1, 0);

@@ -113,6 +113,16 @@ fn refuse(number: u8, line: usize) -> LineRead
     LineRead::Refused { number, line }
 }
 
+// A guard's refusal as its line's.
+fn refuse_guard(read: GuardRead, line: usize) -> LineRead
+    ensures { λ r. ⌜ ((e at : ℕ) → read ≡ GuardRead.Refused e at → r ≡ LineRead.Refused e line) ⌝ }
+{
+    match read {
+        GuardRead::Refused { number, at: _ } => refuse(number, line),
+        GuardRead::Upto(_) => refuse(0, line),
+    }
+}
+
 fn read_fts(rest: &[u8], line: usize, c: Progress) -> LineRead
     ensures { λ r. ⌜ ((s : List ℕ) (T : Tables) (seen : List ℕ) (st : State) → Stands s T seen c st → Says s T seen r (ftsLine line st (asOne (fields (now (rest .entry)))))) ⌝ }
 {
@@ -182,9 +192,9 @@ fn read_valid(
         return refuse(3, line);
     }
     let read = guards::read_whole(text, names, c.features, rest, valid);
-    if let GuardRead::Refused { number, at: _ } = read {
-        return refuse(number, line);
-    }
+    let GuardRead::Upto(_) = read else {
+        return refuse_guard(read, line);
+    };
     LineRead::Kept(Progress {
         section: 2,
         valid: line,
@@ -308,9 +318,9 @@ fn keep_move(
 {
     let k = c.moves;
     let read = guards::read_whole(text, names, c.features, guard, &mut move_guards[k]);
-    if let GuardRead::Refused { number, at: _ } = read {
-        return refuse(number, line);
-    }
+    let GuardRead::Upto(_) = read else {
+        return refuse_guard(read, line);
+    };
     if is_repeat(text, moves, k, seen, from, action, to) {
         return refuse(9, line);
     }
@@ -349,9 +359,9 @@ fn read_stop(
     };
     let mut set = [0u64; 16];
     let read = guards::read_whole(text, names, c.features, &rest[b + 1..], &mut set);
-    if let GuardRead::Refused { number, at: _ } = read {
-        return refuse(number, line);
-    }
+    let GuardRead::Upto(_) = read else {
+        return refuse_guard(read, line);
+    };
     let k = c.stops;
     if has_stop(stops, k, state) {
         return refuse(9, line);

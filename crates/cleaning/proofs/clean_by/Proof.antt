@@ -15,7 +15,7 @@ returns-2 c =
     let laid = c .before .before .before .before in
     let known = laid .before .before .before .before .before .before .before in
     let read = known .before .before .before .before .before .before in
-    laid .clean-read .ensures _ _ (rw (known .r .given .1) at (read .read-blank .ensures))
+    laid .clean-read .ensures _ _ ((rw (known .r .given .1) at (read .read-blank .ensures)) .0)
 
 pub clean-by-spec : {M : Type 1} → statement M
 clean-by-spec =

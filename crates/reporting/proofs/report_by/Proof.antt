@@ -16,10 +16,10 @@ report-low-requires : tie.Need-report-low-requires
 report-low-requires c κs = rw (c .before .before .before .before .before .before .before .highest .ensures) at (c .before .before .before .before .before .before .if1 .taken)
 
 returns-2 : tie.Need-returns-2
-returns-2 c = c .before .before .before .before .report-low .ensures _ _ (rw (c .before .before .before .before .before .before .before .before .before .before .before .before .before .before .before .r .given .1) at (c .before .before .before .before .before .before .before .before .before .before .before .before .before .before .before .before .before .before .before .before .before .read-blank .ensures))
+returns-2 c = c .before .before .before .before .report-low .ensures _ _ ((rw (c .before .before .before .before .before .before .before .before .before .before .before .before .before .before .before .r .given .1) at (c .before .before .before .before .before .before .before .before .before .before .before .before .before .before .before .before .before .before .before .before .before .read-blank .ensures)) .0)
 
 returns-3 : tie.Need-returns-3
-returns-3 c = c .before .before .before .before .report-high .ensures _ _ (rw (c .before .before .before .before .before .before .before .before .before .before .before .before .before .before .before .r .given .1) at (c .before .before .before .before .before .before .before .before .before .before .before .before .before .before .before .before .before .before .before .before .before .read-blank .ensures))
+returns-3 c = c .before .before .before .before .report-high .ensures _ _ ((rw (c .before .before .before .before .before .before .before .before .before .before .before .before .before .before .before .r .given .1) at (c .before .before .before .before .before .before .before .before .before .before .before .before .before .before .before .before .before .before .before .before .before .read-blank .ensures)) .0)
 
 pub report-by-spec : {M : Type 1} → statement M
 report-by-spec =

@@ -7,24 +7,19 @@ use Rattle.sheet.proofs.line.keep_move.Tie as tie
 returns : tie.Need-returns
 returns c =
     λ v t h st so lies.
-    move-refused _ st _ _ _ _ _ (c .before .before .before .before .read-whole .result) _ so (c .before .before .before .before .read-whole .ensures)
-    (c .before .before .read .given .1) (c .refuse .ensures)
+    move-refused _ st _ _ _ _ _ (c .before .before .before .read-whole .result) _ so (c .before .before .before .read-whole .ensures) (c .before .enum-told2 .given .1)
+    (c .refuse-guard .ensures _ _ (c .before .enum-told2 .given .1))
 
 returns-2 : tie.Need-returns-2
 returns-2 c =
     λ v t h st so lies.
-    move-repeat _ st _ _ _ _ _ (c .before .before .before .before .before .before .before .read-whole .result) _ so
-    (c .before .before .before .before .before .before .before .read-whole .ensures) (c .before .before .before .before .before .enum-told .given .1)
-    (c .before .before .is-repeat .ensures) (c .before .if1 .taken) (c .refuse2 .ensures)
+    move-repeat _ st _ _ _ _ _ (c .before .before .before .before .before .before .before .read-whole .result) _ so (c .before .before .before .before .before .before .before .read-whole .ensures) (c .before .before .before .before .before .enum-told .given .1) (c .before .before .is-repeat .ensures) (c .before .if1 .taken) (c .refuse .ensures)
 
 returns-3 : tie.Need-returns-3
 returns-3 c =
     λ v t h st so lies.
-    move-kept _ st _ _ _ _ _ (c .before .before .before .before .before .before .before .read-whole .result) _ so
-    (c .before .before .before .before .before .before .before .read-whole .ensures) (c .before .before .before .before .before .enum-told .given .1) (c .before .before .is-repeat .ensures)
-    (c .before .if1 .left) (c .before .before .before .before .before .before .before .before .before .before .before .before .pre .1)
-    (c .before .before .before .before .before .before .before .before .before .before .before .before .pre .2)
-    (c .before .before .before .before .before .before .before .before .before .before .before .before .pre .3) lies (c .plain .ensures)
+    move-kept _ st _ _ _ _ _ (c .before .before .before .before .before .before .before .read-whole .result) _ so (c .before .before .before .before .before .before .before .read-whole .ensures) (c .before .before .before .before .before .enum-told .given .1) (c .before .before .is-repeat .ensures) (c .before .if1 .left)
+    (c .before .before .before .before .before .before .before .before .before .before .before .before .pre .1) (c .before .before .before .before .before .before .before .before .before .before .before .before .pre .2) (c .before .before .before .before .before .before .before .before .before .before .before .before .pre .3) lies (c .plain .ensures)
 
 pub keep-move-spec : {M : Type 1} → statement M
 keep-move-spec =
@@ -34,10 +29,10 @@ keep-move-spec =
     (λ c. search needs)
     (λ c κs. search needs)
     (λ c. search needs)
+    (λ c. search needs)
     (λ c κs. search needs)
     (λ c. search needs)
     returns
-    (λ c. search needs)
     (λ c κs. search needs)
     (λ c κs. search needs)
     (λ c. search needs)

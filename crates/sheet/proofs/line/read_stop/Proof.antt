@@ -54,64 +54,35 @@ returns-3 : tie.Need-returns-3
 unfolding part
 returns-3 c =
     λ v m g seen st so.
-    stop-refused _ _ st (c .before .before .before .before .before .before .before .before .before .before .before .before .before .cut .given .1)
-    (c .before .before .before .before .before .before .before .before .before .before .before .before .before .before .before .cut-two .ensures)
-    (c .before .before .before .before .before .before .before .before .q .given .1)
-    (c .before .before .before .before .before .before .before .before .before .before .read-state .ensures)
-    (c .before .before .before .before .read-whole .result) _ so
-    (c .before .before .before .before .read-whole .ensures) (c .before .before .read .given .1) (c .refuse3 .ensures)
+    stop-refused _ _ st (c .before .before .before .before .before .before .before .before .before .before .before .before .cut .given .1) (c .before .before .before .before .before .before .before .before .before .before .before .before .before .before .cut-two .ensures) (c .before .before .before .before .before .before .before .q .given .1) (c .before .before .before .before .before .before .before .before .before .read-state .ensures) (c .before .before .before .read-whole .result) _ so (c .before .before .before .read-whole .ensures)
+    (c .before .enum-told4 .given .1) (c .refuse-guard .ensures _ _ (c .before .enum-told4 .given .1))
 
 returns-4 : tie.Need-returns-4
 unfolding part
 returns-4 c =
     λ v m g seen st so.
-    stop-repeat _ _ st
-    (c .before .before .before .before .before .before .before .before .before .before .before .before .before .before .before .cut .given .1)
-    (c .before .before .before .before .before .before .before .before .before .before .before .before .before .before .before .before .before .cut-two .ensures)
-    (c .before .before .before .before .before .before .before .before .before .before .q .given .1)
-    (c .before .before .before .before .before .before .before .before .before .before .before .before .read-state .ensures)
-    (c .before .before .before .before .before .before .read-whole .result) _ so
-    (c .before .before .before .before .before .before .read-whole .ensures) (c .before .before .before .before .enum-told3 .given .1)
-    (c .before .before .has-stop .ensures) (c .before .if1 .taken) (c .refuse4 .ensures)
+    stop-repeat _ _ st (c .before .before .before .before .before .before .before .before .before .before .before .before .before .before .before .cut .given .1) (c .before .before .before .before .before .before .before .before .before .before .before .before .before .before .before .before .before .cut-two .ensures) (c .before .before .before .before .before .before .before .before .before .before .q .given .1) (c .before .before .before .before .before .before .before .before .before .before .before .before .read-state .ensures) (c .before .before .before .before .before .before .read-whole .result) _ so (c .before .before .before .before .before .before .read-whole .ensures)
+    (c .before .before .before .before .enum-told3 .given .1) (c .before .before .has-stop .ensures) (c .before .if1 .taken) (c .refuse3 .ensures)
 
 returns-5 : tie.Need-returns-5
 unfolding part
 returns-5 c =
     λ v m g seen st so.
-    stop-never _ _ st
-    (c .before .before .before .before .before .before .before .before .before .before .before .before .before .before .before .before .cut .given .1)
-    (c .before .before .before .before .before .before .before .before .before .before .before .before .before .before .before .before .before .before .cut-two .ensures)
-    (c .before .before .before .before .before .before .before .before .before .before .before .q .given .1)
-    (c .before .before .before .before .before .before .before .before .before .before .before .before .before .read-state .ensures)
-    (c .before .before .before .before .before .before .before .read-whole .result) _ so
-    (c .before .before .before .before .before .before .before .read-whole .ensures) (c .before .before .before .before .before .enum-told3 .given .1)
-    (c .before .before .before .has-stop .ensures) (c .before .before .if1 .left) (c .before .if2 .taken)
+    stop-never _ _ st (c .before .before .before .before .before .before .before .before .before .before .before .before .before .before .before .before .cut .given .1) (c .before .before .before .before .before .before .before .before .before .before .before .before .before .before .before .before .before .before .cut-two .ensures) (c .before .before .before .before .before .before .before .before .before .before .before .q .given .1) (c .before .before .before .before .before .before .before .before .before .before .before .before .before .read-state .ensures) (c .before .before .before .before .before .before .before .read-whole .result) _ so (c .before .before .before .before .before .before .before .read-whole .ensures)
+    (c .before .before .before .before .before .enum-told3 .given .1) (c .before .before .before .has-stop .ensures) (c .before .before .if1 .left) (c .before .if2 .taken)
 
 slice-set-from-stops : tie.Need-slice-set-from-stops
-slice-set-from-stops c =
-    let few = c .if2 .left in
-    let p = c .before .before .before .before .before .before .before .before .before .before .before .before .before .before .before .before .before .before .before .before .pre in
-    omega (arith, p .0, p .1 .0)
+slice-set-from-stops c = let few = c .if2 .left in let p = c .before .before .before .before .before .before .before .before .before .before .before .before .before .before .before .before .before .before .before .before .pre in omega (arith, p .0, p .1 .0)
 
 slice-set-from-stop-guards : tie.Need-slice-set-from-stop-guards
-slice-set-from-stop-guards c =
-    let few = c .if2 .left in
-    let p = c .before .before .before .before .before .before .before .before .before .before .before .before .before .before .before .before .before .before .before .before .pre in
-    omega (arith, p .0, p .1 .1)
+slice-set-from-stop-guards c = let few = c .if2 .left in let p = c .before .before .before .before .before .before .before .before .before .before .before .before .before .before .before .before .before .before .before .before .pre in omega (arith, p .0, p .1 .1)
 
 returns-6 : tie.Need-returns-6
 unfolding part
 returns-6 c =
     λ v m g seen st so.
-    stop-kept _ _ st
-    (c .before .before .before .before .before .before .before .before .before .before .before .before .before .before .before .before .cut .given .1)
-    (c .before .before .before .before .before .before .before .before .before .before .before .before .before .before .before .before .before .before .cut-two .ensures)
-    (c .before .before .before .before .before .before .before .before .before .before .before .q .given .1)
-    (c .before .before .before .before .before .before .before .before .before .before .before .before .before .read-state .ensures)
-    (c .before .before .before .before .before .before .before .read-whole .result) _ so
-    (c .before .before .before .before .before .before .before .read-whole .ensures)
-    (c .before .before .before .before .before .enum-told3 .given .1) (c .before .before .before .has-stop .ensures)
-    (c .before .before .if1 .left) (slice-set-from-stops (c .before)) (slice-set-from-stop-guards (c .before)) (c .with-stop .ensures)
+    stop-kept _ _ st (c .before .before .before .before .before .before .before .before .before .before .before .before .before .before .before .before .cut .given .1) (c .before .before .before .before .before .before .before .before .before .before .before .before .before .before .before .before .before .before .cut-two .ensures) (c .before .before .before .before .before .before .before .before .before .before .before .q .given .1) (c .before .before .before .before .before .before .before .before .before .before .before .before .before .read-state .ensures) (c .before .before .before .before .before .before .before .read-whole .result) _ so (c .before .before .before .before .before .before .before .read-whole .ensures)
+    (c .before .before .before .before .before .enum-told3 .given .1) (c .before .before .before .has-stop .ensures) (c .before .before .if1 .left) (slice-set-from-stops (c .before)) (slice-set-from-stop-guards (c .before)) (c .with-stop .ensures)
 
 pub read-stop-spec : {M : Type 1} → statement M
 read-stop-spec =
@@ -136,9 +107,9 @@ read-stop-spec =
     part-read-whole-end
     (λ c κs. search needs)
     (λ c. search needs)
+    (λ c. search needs)
     (λ c κs. search needs)
     returns-3
-    (λ c. search needs)
     (λ c κs. search needs)
     (λ c κs. search needs)
     (λ c. search needs)

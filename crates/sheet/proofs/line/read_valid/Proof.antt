@@ -10,15 +10,13 @@ returns c = λ m g t h seen st so. valid-wrong _ (c .before .before .is-one .res
 returns-2 : tie.Need-returns-2
 returns-2 c =
     λ m g t h seen st so.
-    valid-refused _ (c .before .before .before .before .before .before .before .is-one .result) (c .before .before .before .before .before .before .before .is-one .ensures) _ st
-    (c .before .before .before .before .before .before .if1 .left) (c .before .before .before .before .read-whole .result) _ so (c .before .before .before .before .read-whole .ensures)
-    (c .before .before .read .given .1) (c .refuse2 .ensures)
+    valid-refused _ (c .before .before .before .before .before .before .is-one .result) (c .before .before .before .before .before .before .is-one .ensures) _ st (c .before .before .before .before .before .if1 .left) (c .before .before .before .read-whole .result) _ so (c .before .before .before .read-whole .ensures) (c .before .enum-told2 .given .1)
+    (c .refuse-guard .ensures _ _ (c .before .enum-told2 .given .1))
 
 returns-3 : tie.Need-returns-3
 returns-3 c =
     λ m g t h seen st so.
-    valid-kept _ (c .before .before .before .before .before .is-one .result) (c .before .before .before .before .before .is-one .ensures) _ st
-    (c .before .before .before .before .if1 .left) (c .before .before .read-whole .result) _ so (c .before .before .read-whole .ensures) (c .enum-told .given .1)
+    valid-kept _ (c .before .before .before .before .before .is-one .result) (c .before .before .before .before .before .is-one .ensures) _ st (c .before .before .before .before .if1 .left) (c .before .before .read-whole .result) _ so (c .before .before .read-whole .ensures) (c .enum-told .given .1)
 
 pub read-valid-spec : {M : Type 1} → statement M
 read-valid-spec =
@@ -29,7 +27,7 @@ read-valid-spec =
     returns
     (λ c κs. search needs)
     (λ c. search needs)
+    (λ c. search needs)
     (λ c κs. search needs)
     returns-2
-    (λ c. search needs)
     returns-3)

@@ -1,0 +1,21 @@
+-- `line::refuse_guard` meets its contract: a refusal is told by its number. Assumes nothing.
+use borrow.Author.Needs.{needs}
+use Rattle.sheet.proofs.line.refuse_guard.Statement.{statement}
+use Rattle.sheet.proofs.line.refuse_guard.Tie as tie
+
+returns : tie.Need-returns
+returns c = λ e n q. cc
+
+returns-2 : tie.Need-returns-2
+returns-2 c = λ e n q. cc
+
+pub refuse-guard-spec : {M : Type 1} → statement M
+refuse-guard-spec =
+    tie.close
+    (tie.spec
+    (λ c. search needs)
+    (λ c κs. search needs)
+    (λ c. search needs)
+    (λ c κs. search needs)
+    returns
+    returns-2)
