@@ -1,4 +1,4 @@
--- The worked example of document 01, "One sheet in full": its sheet, and what is true of it by hand. Products 1, 2 and 3 are valid; in each of them
+-- The worked example of document 01, "One sheet in full": what is true of its sheet, by hand. Products 1, 2 and 3 are valid; in each of them
 -- states 0, 1 and 2 are reached, by as many moves at least, and no other state, since the guard of `level` never holds. Assumes nothing.
 use mathlib.Core.Bool.{true}
 use mathlib.Core.List.{List, [], _∷_, List·Memᴰ, List·Memᴰ·head, List·Memᴰ·tail, List·Memᴰ·not-nil}
@@ -24,66 +24,11 @@ use Rattle.verdicts.specs.Verdicts.{Makes, MadeIn, MissedIn, JudgedAs, LeadsOut
 use Rattle.splitting.specs.Splitting.{all, guardOf, Writes}
 use Rattle.normal.specs.Behaviour.{Goes}
 use Rattle.normal.specs.Clean.{count, Stays, Leaves}
-use Rattle.demands.proofs.Printed.{onto, bytes, printed, apart, both-true, never-both, each, counted-more}
+use Rattle.demands.specs.Printed.{onto, bytes, printed}
+use Rattle.demands.specs.Examples.{dishText, gaugeOrBoat, boatAndNot, raise, stow, calm, level, done, dish}
+use Rattle.demands.proofs.Facts.{apart, both-true, never-both, each, counted-more}
 
 -- ---- the sheet
-
--- fts→1
--- feature→gauge
--- feature→boat
--- valid→(gauge|boat)
--- start→0
--- move→0→raise→1→(gauge|boat)
--- move→1→stow→2→1
--- move→2→calm→1→gauge
--- move→1→level→3→(boat&!boat)
--- move→3→done→1→1
-unfoldable pub dishText : List ℕ
-dishText =
-    printed
-    ("fts\t1"
-    ∷ "feature\tgauge"
-    ∷ "feature\tboat"
-    ∷ "valid\t(gauge|boat)"
-    ∷ "start\t0"
-    ∷ "move\t0\traise\t1\t(gauge|boat)"
-    ∷ "move\t1\tstow\t2\t1"
-    ∷ "move\t2\tcalm\t1\tgauge"
-    ∷ "move\t1\tlevel\t3\t(boat&!boat)"
-    ∷ "move\t3\tdone\t1\t1"
-    ∷ [])
-
--- gauge is feature 0, boat is feature 1
-abbrev pub gaugeOrBoat : Guard
-gaugeOrBoat = chain disj (one (feature 0)) (feature 1)
-
-abbrev pub boatAndNot : Guard
-boatAndNot = chain conj (one (feature 1)) (neg (feature 1))
-
-abbrev pub raise : Move
-raise = record { line = 6; from = 0; action = bytes "raise"; place = 67; to = 1; guard = gaugeOrBoat }
-
-abbrev pub stow : Move
-stow = record { line = 7; from = 1; action = bytes "stow"; place = 95; to = 2; guard = always }
-
-abbrev pub calm : Move
-calm = record { line = 8; from = 2; action = bytes "calm"; place = 111; to = 1; guard = feature 0 }
-
-abbrev pub level : Move
-level = record { line = 9; from = 1; action = bytes "level"; place = 131; to = 3; guard = boatAndNot }
-
-abbrev pub done : Move
-done = record { line = 10; from = 3; action = bytes "done"; place = 159; to = 1; guard = always }
-
--- the last line stands first
-abbrev pub dish : Sheet
-dish = record {
-  features = record { name = bytes "boat"; place = 28 } ∷ record { name = bytes "gauge"; place = 14 } ∷ [];
-  valid = gaugeOrBoat;
-  start = 0;
-  moves = done ∷ level ∷ calm ∷ stow ∷ raise ∷ [];
-  stops = [];
-}
 
 pub dish-read : readSheet dishText ≡ kept dish
 unfolding dishText onto bytes printed cut sameBytes allNameBytes isName isAction readState run afterRun number parts readGuard readWhole holds partsHold names ftsLine featureLine validLine startLine guardedMove moveLine moved readLine reading.none ended readLines last readSheet

@@ -1,5 +1,6 @@
 pub mod Demands
-pub mod Printed
+pub mod Refusals
+pub mod Facts
 pub mod Dish
 pub mod Pieced
 pub mod Three

@@ -16,34 +16,9 @@ use Rattle.sheet.specs.Reading as reading
 use Rattle.family.specs.Ways.{Valid, Reached, begin, by}
 use Rattle.verdicts.specs.declared.Verdict.the-variants.{Dead}
 use Rattle.verdicts.specs.Verdicts.{Makes, MissedIn, JudgedAs}
-use Rattle.demands.proofs.Printed.{onto, bytes, printed, apart, each}
-
--- fts→1
--- feature→a
--- valid→1
--- start→0
--- move→0→first→1→a
--- move→1→second→2→!a
-unfoldable pub piecedText : List ℕ
-piecedText =
-    printed
-    ("fts\t1"
-    ∷ "feature\ta"
-    ∷ "valid\t1"
-    ∷ "start\t0"
-    ∷ "move\t0\tfirst\t1\ta"
-    ∷ "move\t1\tsecond\t2\t!a"
-    ∷ [])
-
-abbrev pub first : Move
-first = record { line = 5; from = 0; action = bytes "first"; place = 39; to = 1; guard = feature 0 }
-
-abbrev pub second : Move
-second = record { line = 6; from = 1; action = bytes "second"; place = 56; to = 2; guard = neg (feature 0) }
-
--- the last line stands first
-abbrev pub pieced : Sheet
-pieced = record { features = record { name = bytes "a"; place = 14 } ∷ []; valid = always; start = 0; moves = second ∷ first ∷ []; stops = [] }
+use Rattle.demands.specs.Printed.{onto, bytes, printed}
+use Rattle.demands.specs.Examples.{piecedText, first, second, pieced}
+use Rattle.demands.proofs.Facts.{apart, each}
 
 pub pieced-read : readSheet piecedText ≡ kept pieced
 unfolding piecedText onto bytes printed cut sameBytes allNameBytes isName isAction readState run afterRun number parts readGuard readWhole holds names ftsLine featureLine validLine startLine guardedMove moveLine moved readLine reading.none ended readLines last readSheet

@@ -15,21 +15,9 @@ use Rattle.sheet.specs.Reading as reading
 use Rattle.family.specs.Ways.{Valid, begin, Way, none, more, Depth}
 use Rattle.verdicts.specs.declared.StateVerdict.the-variants.{End}
 use Rattle.verdicts.specs.Verdicts.{ReachedIn, StateAs, Counted, nobody, counts}
-use Rattle.demands.proofs.Printed.{onto, printed, both-true, counted-more}
-
--- fts→1
--- valid→1
--- start→0
-unfoldable pub threeText : List ℕ
-threeText =
-    printed
-    ("fts\t1"
-    ∷ "valid\t1"
-    ∷ "start\t0"
-    ∷ [])
-
-abbrev pub three : Sheet
-three = record { features = []; valid = always; start = 0; moves = []; stops = [] }
+use Rattle.demands.specs.Printed.{onto, printed}
+use Rattle.demands.specs.Examples.{threeText, three}
+use Rattle.demands.proofs.Facts.{both-true, counted-more}
 
 pub three-read : readSheet threeText ≡ kept three
 unfolding threeText onto printed cut sameBytes readState readGuard readWhole holds names ftsLine validLine startLine readLine reading.none ended readLines last readSheet

@@ -5,16 +5,10 @@ use mathlib.Core.List.{List·Memᴰ}
 use mathlib.Core.Logic.{inl, inr}
 use Prim.Native.Nat.{ℕ}
 use Rattle.sheet.specs.Sheet.{Move, Stop, Sheet}
-use Rattle.verdicts.specs.declared.Verdict.{Verdict}
-use Rattle.verdicts.specs.declared.Verdict.the-variants.{Dead, False, Must, May}
-use Rattle.verdicts.specs.declared.StateVerdict.{StateVerdict}
-use Rattle.verdicts.specs.declared.StateVerdict.the-variants.{Unreached, End, Hidden, Live}
-use Rattle.verdicts.specs.declared.StopVerdict.{StopVerdict}
-use Rattle.verdicts.specs.declared.StopVerdict.the-variants.{Untrue, Idle, True}
-use Rattle.verdicts.specs.Verdicts.{Makes, DeadMove, FalseOptional, JudgedAs, LeadsOut, Stuck, StateAs, UntrueIn, StopAs}
+use Rattle.verdicts.specs.Verdicts.{Makes, DeadMove, FalseOptional, LeadsOut, Stuck, UntrueIn}
 use Rattle.normal.specs.Behaviour.{Goes}
 use Rattle.normal.specs.Clean.{Kept, GuardFor, Stays, Leaves, keyOf, Clean}
-use Rattle.normal.specs.Faults.{GoodMove, GoodState, GoodStop, Faultless}
+use Rattle.normal.specs.Faults.{Faultless}
 use Rattle.normal.proofs.Once.{once, key-of, before-other}
 use Rattle.normal.proofs.Kept.{valid-small, clean-again}
 
@@ -64,27 +58,8 @@ module _ {c : Sheet} (x : Clean c c) where
       let w = x .stops-only d i .2 .only p (valid-small (u .declares .valid)) (u .declares .held) in
       w .none (u .move .action) (u .move .to) (line-goes (u .out) (u .makes))
 
-  module _ (R : ℕ → ℕ → Type 0) where
-    moves-good : (m : Move) → List·Memᴰ m (c .moves) → (v : Verdict) → JudgedAs R c m v → GoodMove v
-    moves-good m i (Dead f) j = not-dead m i (j .0)
-    moves-good m i (False p) j = not-false m i (j .0)
-    moves-good m i (Must p) j = tt
-    moves-good m i (May p q) j = tt
+  own-faultless : Faultless c
+  own-faultless = record { dead = not-dead; false-optional = not-false; hidden = λ q p m. not-hidden; untrue = λ d p. not-untrue d }
 
-    states-good : (q : ℕ) (v : StateVerdict) → StateAs R c q v → GoodState v
-    states-good q Unreached j = tt
-    states-good q End j = tt
-    states-good q (Hidden p) j = not-hidden (j .0 .1) (j .1 .is)
-    states-good q Live j = tt
-
-    stops-good : (d : Stop) → List·Memᴰ d (c .stops) → (v : StopVerdict) → StopAs R c d v → GoodStop v
-    stops-good d i (Untrue p) j = not-untrue d i (j .is)
-    stops-good d i Idle j = tt
-    stops-good d i True j = tt
-
-    pub own-faultless : Faultless R c
-    own-faultless = record { moves = moves-good; states = states-good; stops = stops-good }
-
--- a clean form has no fault, whatever the order by which the smallest product is found
-pub faultless : (R : ℕ → ℕ → Type 0) {r c : Sheet} → Clean r c → Faultless R c
-faultless R k = own-faultless (clean-again k) R
+pub faultless : {r c : Sheet} → Clean r c → Faultless c
+faultless k = own-faultless (clean-again k)

@@ -1,30 +1,11 @@
--- What document 01 prints, as the bytes that a program reads or writes: a line is written here as a text, with `\t` for a tab; and a few facts that
--- belong to no sheet. Assumes nothing.
+-- A few facts that belong to no sheet: of truth values, of the members of a list, of counts. Assumes nothing.
 use mathlib.Core.Bool.{Bool, true, false, not, _&&_}
 use mathlib.Core.List.{List, [], _∷_, List·Memᴰ, List·Memᴰ·head, List·Memᴰ·tail}
 use mathlib.Core.Path.{_≡_, refl, sym, ap, subst}
 use Prim.Native.Nat.{ℕ, zero, suc, _+_, _≤_}
-use Prim.Native.Char.{code}
-use Prim.Native.String.{String, [] as empty, _∷_ as _before_}
 use native.Mathlib.Omega.{arith}
 use Rattle.products.specs.Sets.{oneIf}
 use Rattle.verdicts.specs.Verdicts.{Counted, passes}
-
--- the bytes of a text in ASCII: the number of each of its characters, before what follows
-unfoldable pub onto : String → List ℕ → List ℕ
-onto empty rest = rest
-onto (c before s) rest = code c ∷ onto s rest
-
--- the bytes of a text, which is part of a line
-unfoldable pub bytes : String → List ℕ
-bytes s = onto s []
-
--- the bytes of lines, each ended by byte 10
-unfoldable pub printed : List String → List ℕ
-printed [] = []
-printed (l ∷ ls) = onto l (10 ∷ printed ls)
-
--- ---- facts
 
 pub apart : false ≡ true → ⊥
 apart e = omega (arith, ap oneIf e)

@@ -1,0 +1,4 @@
+pub mod Demands
+pub mod Printed
+pub mod Examples
+pub mod Table
