@@ -1,5 +1,7 @@
 pub mod Demands
 pub mod Refusals
+pub mod Decided
+pub mod Exists
 pub mod Facts
 pub mod Dish
 pub mod Pieced

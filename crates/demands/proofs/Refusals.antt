@@ -49,7 +49,7 @@ abbrev Given : ℕ → Type 0
 Given e = (s : List ℕ) × (n : ℕ) × (readSheet s ≡ refused e n)
 
 long-given : Given 1
-long-given = (replicate 65537 0, 0, read-long (replicate 65537 0) (omega (arith, length-replicate 65537 0)))
+long-given = (replicate 65537 0, 0, read-long (replicate 65537 0) (omega (arith, length-replicate {A = ℕ} 65537 0)))
 
 -- the text of these lines is refused so, by computing
 lines-given : (Given 3 × Given 4) × (Given 5 × Given 6) × (Given 7 × Given 8) × (Given 9 × Given 10)
@@ -61,8 +61,8 @@ lines-given = (
     (printed ("fts\t1" ∷ "valid\t!!!!!!!!!!!!!!!!!!!!!!!!!!!!!!!!!1" ∷ []), 2, refl),
     (
       printed
-      ("fts\t1" ∷ "feature\ta" ∷ "feature\tb" ∷ "feature\tc" ∷ "feature\td" ∷ "feature\te" ∷ "feature\tf" ∷ "feature\tg" ∷ "feature\th" ∷ "feature\ti"
-      ∷ "feature\tj" ∷ "feature\tk" ∷ []),
+          ("fts\t1" ∷ "feature\ta" ∷ "feature\tb" ∷ "feature\tc" ∷ "feature\td" ∷ "feature\te" ∷ "feature\tf" ∷ "feature\tg" ∷ "feature\th" ∷ "feature\ti"
+          ∷ "feature\tj" ∷ "feature\tk" ∷ []),
       12,
       refl,
     ),
