@@ -1,12 +1,15 @@
 // Runs the report or the clean sheet of the sheet on standard input many times over and writes what
 // the last run gave: `bench report 1000` or `bench clean 1000`. Nothing is measured here.
-use libc::STDOUT_FILENO;
+use console::Input;
 
 const MOST_TURNS: usize = 1_000_000_000;
 
 fn main() {
     let mut buf = [0u8; 65537];
-    let n = console::read_input(&mut buf);
+    let input = console::read_input(&mut buf);
+    let Input::Whole(n) = input else {
+        return;
+    };
     let mut room = [0u8; 65536];
     let mut word = [0u8; 16];
     let a = os::arg(1, &mut word);
@@ -14,10 +17,10 @@ fn main() {
     let b = os::arg(2, &mut word);
     let turns = turns_of(&word, b);
     if mode == 0 {
-        io::write_all(STDOUT_FILENO, b"bench: report or clean, and a number\n");
+        console::tell(b"bench: report or clean, and a number\n");
         return;
     }
-    run(&buf[..n], &mut room, mode, turns);
+    run(console::first(&buf, n), &mut room, mode, turns);
 }
 
 // 1 for `report`, 2 for `clean`, by the first letter; 0 for anything else.
@@ -71,11 +74,8 @@ fn run(text: &[u8], room: &mut [u8], mode: usize, turns: usize) {
     if left == 0 {
         return;
     }
-    if mode == 1 {
-        show_report(text, room);
-        return;
-    }
-    show_clean(text, room);
+    let m = answer(text, room, mode);
+    console::print(console::first(room, m));
 }
 
 fn turn(text: &[u8], room: &mut [u8], mode: usize) {
@@ -86,26 +86,28 @@ fn turn(text: &[u8], room: &mut [u8], mode: usize) {
     cleaning::clean(text, room);
 }
 
-fn show_report(text: &[u8], room: &mut [u8]) {
+// Lays the text into the room, or the line of the refusal; answers how many bytes that is.
+fn answer(text: &[u8], room: &mut [u8], mode: usize) -> usize {
+    if mode == 1 {
+        return answer_report(text, room);
+    }
+    answer_clean(text, room)
+}
+
+fn answer_report(text: &[u8], room: &mut [u8]) -> usize {
     let r = reporting::report(text, room);
     match r {
-        reporting::Answer::Done(m) => {
-            console::print_text(room, m);
-        }
+        reporting::Answer::Done(m) => m,
         reporting::Answer::Refused { number, line } => {
-            console::print_refusal(number, line);
+            refusals::put_refusal(room, 0, number, line)
         }
     }
 }
 
-fn show_clean(text: &[u8], room: &mut [u8]) {
+fn answer_clean(text: &[u8], room: &mut [u8]) -> usize {
     let r = cleaning::clean(text, room);
     match r {
-        cleaning::Answer::Done(m) => {
-            console::print_text(room, m);
-        }
-        cleaning::Answer::Refused { number, line } => {
-            console::print_refusal(number, line);
-        }
+        cleaning::Answer::Done(m) => m,
+        cleaning::Answer::Refused { number, line } => refusals::put_refusal(room, 0, number, line),
     }
 }

@@ -1,57 +1,114 @@
-// What the programs share: one sheet from standard input, read to its end, and a refusal on standard
-// output. What the operating system reads and writes no contract can say.
+// What the programs share: one sheet from standard input, read to its end, and bytes on standard output.
+// What the operating system reads and writes no contract can say. So all that shapes bytes stands in
+// functions that promise them, and the two that hand bytes over, `print` and `tell`, promise nothing.
+use libc::STDERR_FILENO;
 use libc::STDIN_FILENO;
 use libc::STDOUT_FILENO;
-ghost use Rattle.io.specs.Counts.{Counts};
+ghost use mathlib.Core.Path.{_≡_};
+ghost use lib.ListN.{length, take};
+ghost use Rattle.console.specs.Reading.{Held, Laid, pieceOf};
 
-// Reads standard input to its end. As much of it as fits is laid at the start of buf, and the answer
-// is how much that is.
-pub fn read_input(buf: &mut [u8]) -> usize
-    ensures { λ r. ⌜ Counts r (now (buf .exit)) ⌝ }
+// The whole input, with the number of its bytes that stand in the buffer; or one that could not be read
+// to its end.
+pub enum Input {
+    Whole(usize),
+    Broken,
+}
+
+// What one read gave: bytes, and the place behind them; the end of the input; or an error.
+enum Piece {
+    Upto(usize),
+    End,
+    Failed,
+}
+
+// Reads standard input to its end. As much of it as fits is laid at the start of buf, and the rest is
+// passed over. Where a read fails a message goes to standard error.
+pub fn read_input(buf: &mut [u8]) -> Input
+    ensures { λ r. ⌜ Held (now (buf .entry)) (now (buf .exit)) r ⌝ }
 {
-    let n = io::read_full(STDIN_FILENO, buf);
-    pass_rest();
-    n
+    let input = read_all(buf);
+    if let Input::Broken = input {
+        tell(b"the sheet could not be read to its end\n");
+    }
+    input
 }
 
-// Reads once, and answers whether anything came.
-fn pass_some() -> bool {
-    let mut buf = io::buffer();
-    let got = libc::read(STDIN_FILENO, &mut buf);
-    got > 0
-}
-
-// Passes over what is left of the input. A proved loop has to end, and nothing says that an input
-// does: so the loop counts its turns down, from a number that no run uses up.
-fn pass_rest() {
+// The same without the message. A proved loop has to end, and nothing says that an input does: so the
+// loop counts its turns down, from a number that no run uses up.
+fn read_all(buf: &mut [u8]) -> Input
+    ensures { λ r. ⌜ Held (now (buf .entry)) (now (buf .exit)) r ⌝ }
+{
+    let mut at = 0;
     let mut turns = u64::MAX;
-    while turns > 0 && pass_some() {
+    while turns > 0 {
+        let piece = read_piece(buf, at);
+        match piece {
+            Piece::Upto(next) => {
+                at = next;
+            }
+            Piece::End => {
+                let n = counts::at_most(at, buf.len());
+                return Input::Whole(n);
+            }
+            Piece::Failed => {
+                return Input::Broken;
+            }
+        }
         turns -= 1;
     }
+    Input::Broken
 }
 
-// Writes `refused`, number, line, tab-parted, with byte 10 at the end; answers whether all was written.
-pub fn print_refusal(number: u8, line: usize) -> bool {
-    if !io::write_all(STDOUT_FILENO, b"refused\t") {
-        return false;
+// Reads once, and lays what came into buf from the place `at` on, as far as it fits.
+fn read_piece(buf: &mut [u8], at: usize) -> Piece
+    ensures { λ r. ⌜ Laid (now (buf .entry)) at (now (buf .exit)) r ⌝ }
+{
+    let mut some = io::buffer();
+    let got = libc::read(STDIN_FILENO, &mut some);
+    let piece = piece_of(got, &some);
+    match piece {
+        Piece::Upto(n) => Piece::Upto(text::put_bytes(buf, at, first(&some, n))),
+        Piece::End => Piece::End,
+        Piece::Failed => Piece::Failed,
     }
-    if !io::print_decimal(STDOUT_FILENO, number as u64) {
-        return false;
-    }
-    if !io::write_all(STDOUT_FILENO, b"\t") {
-        return false;
-    }
-    if !io::print_decimal(STDOUT_FILENO, line as u64) {
-        return false;
-    }
-    io::write_all(STDOUT_FILENO, b"\n")
 }
 
-// Writes the first n bytes of the room, all of it where it is shorter; answers whether all was
-// written.
-pub fn print_text(room: &[u8], n: usize) -> bool {
-    if room.len() < n {
-        return io::write_all(STDOUT_FILENO, room);
+// What a read that was handed `some` says by its answer.
+fn piece_of(got: isize, some: &[u8]) -> Piece
+    ensures { λ r. ⌜ r ≡ pieceOf got (length (now (some .entry))) ⌝ }
+{
+    if got < 0 {
+        return Piece::Failed;
     }
-    io::write_all(STDOUT_FILENO, &room[0..n])
+    if got == 0 {
+        return Piece::End;
+    }
+    let n = io::count(got, some);
+    Piece::Upto(n)
+}
+
+// The first n bytes of the room, all of it where it is shorter.
+pub fn first(room: &[u8], n: usize) -> &[u8]
+    ensures { λ r. ⌜ now r ≡ take n (now (room .entry)) ⌝ }
+{
+    if room.len() <= n {
+        return room;
+    }
+    &room[0..n]
+}
+
+// Writes to standard output; answers whether all was written. Where it was not, a message goes to
+// standard error.
+pub fn print(bytes: &[u8]) -> bool {
+    if io::write_all(STDOUT_FILENO, bytes) {
+        return true;
+    }
+    tell(b"the answer could not be written in full\n");
+    false
+}
+
+// Writes to standard error. Where that fails too there is nobody left to be told.
+pub fn tell(bytes: &[u8]) {
+    io::write_all(STDERR_FILENO, bytes);
 }

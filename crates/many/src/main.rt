@@ -3,18 +3,24 @@
 // bytes, a sheet. For each sheet two frames are written: what the program `report` writes for it, and
 // what `clean` writes. Nothing is judged here.
 use libc::STDIN_FILENO;
-use libc::STDOUT_FILENO;
-ghost use Prim.Native.Nat.{_≤_};
 
 // The most that a frame can hold, and the most digits that its length is written with.
 const MOST_LENGTH: usize = 1_000_000_000;
 
 const MOST_DIGITS: usize = 20;
 
-// What stands before a sheet's bytes: their number, or that no frame comes any more.
+// What stands before a sheet's bytes: their number, or that no frame comes any more, or neither.
 enum Head {
     Length(usize),
     End,
+    Broken,
+}
+
+// What one read gave: a byte, the end of the input, or an error.
+enum Next {
+    Byte(u8),
+    End,
+    Failed,
 }
 
 fn main() {
@@ -32,60 +38,94 @@ fn answer_all(buf: &mut [u8], room: &mut [u8]) {
     }
 }
 
-// Reads one sheet and writes both answers; answers whether there was one and all was written. Where
-// the sheet is longer than buf it is answered by what fits, as the programs do.
+// Reads one frame and writes both answers; answers whether there was one and all was written.
 fn answer_next(buf: &mut [u8], room: &mut [u8]) -> bool {
     let head = read_head();
-    let Head::Length(length) = head else {
-        return false;
-    };
+    match head {
+        Head::Length(length) => answer_frame(buf, room, length),
+        Head::End => false,
+        Head::Broken => tell_broken(),
+    }
+}
+
+// Never answers for a frame that does not come whole. Where the sheet is longer than buf it is answered
+// by what fits, as the programs do.
+fn answer_frame(buf: &mut [u8], room: &mut [u8], length: usize) -> bool {
     if !read_sheet(buf, length) {
-        return false;
+        return tell_broken();
     }
-    if buf.len() < length {
-        return answer(buf, room);
-    }
-    answer(&buf[0..length], room)
+    answer(console::first(buf, length), room)
+}
+
+// Answers that nothing more is to be answered.
+fn tell_broken() -> bool {
+    console::tell(b"the frames could not be read to their end\n");
+    false
 }
 
 fn answer(text: &[u8], room: &mut [u8]) -> bool {
-    if !print_report(text, room) {
+    let m = answer_report(text, room);
+    if !print_frame(room, m) {
         return false;
     }
-    print_clean(text, room)
+    let n = answer_clean(text, room);
+    print_frame(room, n)
 }
 
-// The number before the next byte 10. Anything else there, and the end of the input, is the end.
+// The number before the next byte 10. Only before its first byte the input may end.
 fn read_head() -> Head {
+    let next = read_byte();
+    match next {
+        Next::Byte(b) => read_length(b),
+        Next::End => Head::End,
+        Next::Failed => Head::Broken,
+    }
+}
+
+// The number whose first byte is `first`.
+fn read_length(first: u8) -> Head {
     let mut length: usize = 0;
+    let mut b = first;
     let mut left = MOST_DIGITS;
     while left > 0 {
-        let b = read_byte();
         if b == b'\n' {
             return Head::Length(length);
         }
         if b < b'0' {
-            return Head::End;
+            return Head::Broken;
         }
         if b'9' < b {
-            return Head::End;
+            return Head::Broken;
         }
         length = length * 10 + (b as usize - 48);
         if MOST_LENGTH < length {
-            return Head::End;
+            return Head::Broken;
         }
+        b = read_digit();
         left -= 1;
     }
-    Head::End
+    Head::Broken
 }
 
-// The next byte, or 0 where none comes.
-fn read_byte() -> u8 {
+// The next byte, or 0, which is no digit, where none comes.
+fn read_digit() -> u8 {
+    let next = read_byte();
+    let Next::Byte(b) = next else {
+        return 0;
+    };
+    b
+}
+
+fn read_byte() -> Next {
     let mut byte = [0u8; 1];
-    if libc::read(STDIN_FILENO, &mut byte) > 0 {
-        return byte[0];
+    let got = libc::read(STDIN_FILENO, &mut byte);
+    if got < 0 {
+        return Next::Failed;
     }
-    0
+    if got == 0 {
+        return Next::End;
+    }
+    Next::Byte(byte[0])
 }
 
 // Reads a sheet of this length; answers whether all of it came. As much as fits is laid at the start
@@ -128,61 +168,33 @@ fn pass_some(most: usize) -> usize {
     fill(&mut buf, most)
 }
 
-fn print_report(text: &[u8], room: &mut [u8]) -> bool {
+// Lays what `report` writes into the room; answers how many bytes that is.
+fn answer_report(text: &[u8], room: &mut [u8]) -> usize {
     let r = reporting::report(text, room);
     match r {
-        reporting::Answer::Done(m) => print_text(room, m),
-        reporting::Answer::Refused { number, line } => print_refusal(number, line),
+        reporting::Answer::Done(m) => m,
+        reporting::Answer::Refused { number, line } => {
+            refusals::put_refusal(room, 0, number, line)
+        }
     }
 }
 
-fn print_clean(text: &[u8], room: &mut [u8]) -> bool {
+// The same for `clean`.
+fn answer_clean(text: &[u8], room: &mut [u8]) -> usize {
     let r = cleaning::clean(text, room);
     match r {
-        cleaning::Answer::Done(m) => print_text(room, m),
-        cleaning::Answer::Refused { number, line } => print_refusal(number, line),
+        cleaning::Answer::Done(m) => m,
+        cleaning::Answer::Refused { number, line } => refusals::put_refusal(room, 0, number, line),
     }
 }
 
-// The first m bytes of the room as a frame; answers whether all was written.
-fn print_text(room: &[u8], m: usize) -> bool {
-    if !print_head(m) {
+// The first n bytes of the room as a frame; answers whether all was written.
+fn print_frame(room: &[u8], n: usize) -> bool {
+    let mut head = [0u8; 64];
+    let a = text::put_number(&mut head, 0, n);
+    let b = text::put(&mut head, a, b'\n');
+    if !console::print(console::first(&head, b)) {
         return false;
     }
-    console::print_text(room, m)
-}
-
-// A refusal as a frame; answers whether all was written.
-fn print_refusal(number: u8, line: usize) -> bool {
-    // beside the digits there are the word, two tabs and the line end
-    if !print_head(10 + digits(number as usize) + digits(line)) {
-        return false;
-    }
-    console::print_refusal(number, line)
-}
-
-// How many decimal digits a number has: 5 at most, as a sheet has no more lines than bytes.
-fn digits(n: usize) -> usize
-    ensures { λ r. ⌜ r ≤ 5 ⌝ }
-{
-    if n < 10 {
-        return 1;
-    }
-    if n < 100 {
-        return 2;
-    }
-    if n < 1_000 {
-        return 3;
-    }
-    if n < 10_000 {
-        return 4;
-    }
-    5
-}
-
-fn print_head(length: usize) -> bool {
-    if !io::print_decimal(STDOUT_FILENO, length as u64) {
-        return false;
-    }
-    io::write_all(STDOUT_FILENO, b"\n")
+    console::print(console::first(room, n))
 }

@@ -1,17 +1,29 @@
 // Reads one sheet from standard input and writes its report, or the refusal, to standard output.
+use console::Input;
 use reporting::Answer;
+ghost use Prim.Native.Nat.{_≤_};
+ghost use lib.ListN.{length, take};
+ghost use Rattle.report.specs.Printed.{Printed};
 
 fn main() {
     let mut buf = [0u8; 65537];
-    let n = console::read_input(&mut buf);
+    let input = console::read_input(&mut buf);
+    let Input::Whole(n) = input else {
+        return;
+    };
     let mut room = [0u8; 65536];
-    let r = reporting::report(&buf[..n], &mut room);
+    let m = answer(console::first(&buf, n), &mut room);
+    console::print(console::first(&room, m));
+}
+
+// Lays the report into the room, or the line of the refusal; answers how many bytes that is.
+fn answer(sheet: &[u8], room: &mut [u8]) -> usize
+    requires { ⌜ 33 ≤ length (now room) ⌝ }
+    ensures { λ r. ⌜ Printed (now (sheet .entry)) (length (now (room .entry))) (take r (now (room .exit))) ⌝ }
+{
+    let r = reporting::report(sheet, room);
     match r {
-        Answer::Done(m) => {
-            console::print_text(&room, m);
-        }
-        Answer::Refused { number, line } => {
-            console::print_refusal(number, line);
-        }
+        Answer::Done(m) => m,
+        Answer::Refused { number, line } => refusals::put_refusal(room, 0, number, line),
     }
 }

@@ -1,0 +1,30 @@
+-- What reading an input leaves in the buffer. Which bytes the system hands over nobody can promise; that they stand in their place, that no
+-- more of them are told than there are, and that nothing else is written, can be. Assumes nothing: these are definitions.
+use mathlib.Core.Path.{_≡_}
+use mathlib.Core.List.{List}
+use Prim.Native.Nat.{ℕ, zero, suc, _≤_, min}
+use lib.IntN.{ℤ, pos, negsuc}
+use lib.ListN.{length, drop}
+use Rattle.text.specs.Text.{Wrote}
+use Rattle.console.specs.declared.Input.{Input}
+use Rattle.console.specs.declared.Input.the-variants.{Whole, Broken}
+use Rattle.console.specs.declared.Piece.{Piece}
+use Rattle.console.specs.declared.Piece.the-variants.{Upto, End, Failed}
+
+-- the buffer was `before` and is `after`: of a whole input the first n bytes stand there, and behind them what stood there before
+abbrev pub Held : List ℕ → List ℕ → Input → Type 0
+Held before after (Whole n) = (n ≤ length after) × (length after ≡ length before) × (drop n after ≡ drop n before)
+Held before after Broken = length after ≡ length before
+
+-- one read: some bytes were laid from `at` on, or nothing was
+abbrev pub Laid : List ℕ → ℕ → List ℕ → Piece → Type 0
+Laid before at after (Upto next) = (bytes : List ℕ) × Wrote before at bytes after next
+Laid before at after End = after ≡ before
+Laid before at after Failed = after ≡ before
+
+-- what the system answers for a read into `most` bytes: how many came, 0 at the end of the input, less than 0 for an error. An error is never
+-- taken for the end.
+unfoldable pub pieceOf : ℤ → ℕ → Piece
+pieceOf (negsuc k) most = Failed
+pieceOf (pos zero) most = End
+pieceOf (pos (suc k)) most = Upto (min (suc k) most)
