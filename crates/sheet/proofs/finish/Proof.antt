@@ -1,11 +1,12 @@
 -- `finish` meets its contract: the set that is left has exactly the valid products, and is empty where there is none. Assumes nothing.
 use borrow.Author.Needs.{needs}
+use native.Mathlib.Omega.{arith}
 use Rattle.sheet.proofs.Whole.{lacking, no-product, finished}
 use Rattle.sheet.proofs.finish.Statement.{statement}
 use Rattle.sheet.proofs.finish.Tie as tie
 
 returns : tie.Need-returns
-returns c = λ s n m g t h seen st so. lacking so _ (c .before .if1 .taken) (c .refuse-sheet .ensures)
+returns c = λ s n m g t h seen st so. lacking so _ (omega (arith, c .before .if1 .taken)) (c .refuse-sheet .ensures)
 
 returns-2 : tie.Need-returns-2
 returns-2 c =

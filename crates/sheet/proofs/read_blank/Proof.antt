@@ -1,12 +1,13 @@
 -- `read_blank` meets its contract: what `read_lines` answers, and blank tables behind a refusal. Assumes nothing.
 use borrow.Author.Needs.{needs}
 use mathlib.Core.Path.{_∙_}
+use native.Mathlib.Omega.{arith}
 use Rattle.sheet.proofs.Whole.{own-sized, sheet-long, sheet-empty, sheet-open, sheet-refused, sheet-kept}
 use Rattle.sheet.proofs.read_blank.Statement.{statement}
 use Rattle.sheet.proofs.read_blank.Tie as tie
 
 returns : tie.Need-returns
-returns c = sheet-long _ (own-sized _) (c .before .before .before .pre .0) (c .before .if1 .taken) (c .refuse-sheet .ensures)
+returns c = sheet-long _ (own-sized _) (c .before .before .before .pre .0) (omega (arith, c .before .if1 .taken)) (c .refuse-sheet .ensures)
 
 returns-2 : tie.Need-returns-2
 returns-2 c = sheet-empty _ (own-sized _) (c .before .before .before .before .pre .0) (c .before .if2 .taken) (c .refuse-sheet2 .ensures)

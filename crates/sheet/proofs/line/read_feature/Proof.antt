@@ -1,5 +1,6 @@
 -- `line::read_feature` meets its contract: a law of `Lines` for each return. Assumes nothing.
 use borrow.Author.Needs.{needs}
+use native.Mathlib.Omega.{arith}
 use Rattle.sheet.proofs.Lines.{feature-wrong, feature-full, feature-bad, feature-repeat, feature-kept}
 use Rattle.sheet.proofs.line.read_feature.Statement.{statement}
 use Rattle.sheet.proofs.line.read_feature.Tie as tie
@@ -11,7 +12,7 @@ returns-2 : tie.Need-returns-2
 returns-2 c =
     λ v m g t h seen st so lies.
     feature-full _ (c .before .before .before .is-one .result) (c .before .before .before .is-one .ensures) _ _ st (c .before .before .if1 .left) so
-    (c .before .if2 .taken) (c .refuse2 .ensures)
+    (omega (arith, c .before .if2 .taken)) (c .refuse2 .ensures)
 
 returns-3 : tie.Need-returns-3
 returns-3 c =

@@ -14,7 +14,7 @@ returns-2 : tie.Need-returns-2
 returns-2 c =
     λ v t h st so lies.
     move-full _ _ _ st so (c .before .before .before .before .b .given .1) (c .before .before .before .before .before .before .cut-four .ensures)
-    (c .before .if1 .taken) (c .refuse2 .ensures)
+    (omega (arith, c .before .if1 .taken)) (c .refuse2 .ensures)
 
 sub-read-triple : tie.Need-sub-read-triple
 sub-read-triple c = let k = ends-of _ (c .before .before .before .b .given .1)
