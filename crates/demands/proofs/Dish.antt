@@ -1,7 +1,7 @@
 -- The worked example of document 01, "One sheet in full": what is true of its sheet, by hand. Products 1, 2 and 3 are valid; in each of them
 -- states 0, 1 and 2 are reached, by as many moves at least, and no other state, since the guard of `level` never holds. Assumes nothing.
 use mathlib.Core.Bool.{true}
-use mathlib.Core.List.{List, [], _∷_, List·Memᴰ, List·Memᴰ·head, List·Memᴰ·tail, List·Memᴰ·not-nil}
+use mathlib.Core.List.{[], _∷_, List·Memᴰ, List·Memᴰ·head, List·Memᴰ·tail, List·Memᴰ·not-nil}
 use mathlib.Core.Path.{_≡_, refl}
 use Prim.Native.Nat.{ℕ, zero, suc, _≤_, _<_}
 use native.Mathlib.Omega.{arith}
@@ -11,9 +11,9 @@ use Rattle.products.specs.Sets.{bit}
 use Rattle.products.specs.declared.Found.the-variants.{At, Nothing}
 use Rattle.fields.specs.Bytes.{sameBytes, allNameBytes, isName, isAction, readState, run, afterRun}
 use Rattle.fields.specs.Cutting.{cut}
-use Rattle.guards.specs.Guard.{Guard, conj, disj, never, always, feature, neg, chain, choice, one, holds, partsHold}
+use Rattle.guards.specs.Guard.{Guard, never, always, feature, choice, holds, partsHold}
 use Rattle.guards.specs.Reading.{number, parts, readGuard, readWhole}
-use Rattle.sheet.specs.Sheet.{Move, Sheet, names}
+use Rattle.sheet.specs.Sheet.{Move, names}
 use Rattle.sheet.specs.Reading.{kept, ftsLine, featureLine, validLine, startLine, guardedMove, moveLine, moved, readLine, ended, readLines, last, readSheet}
 use Rattle.sheet.specs.Reading as reading
 use Rattle.family.specs.Ways.{Valid, Reached, begin, by, Way, none, more, Fewest, Depth}

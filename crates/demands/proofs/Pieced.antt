@@ -1,16 +1,16 @@
 -- "A way pieced together from several products. With feature a, all valid, 0 to 1 under `a` and 1 to 2 under `!a`: the second move is dead (made `-`,
 -- missed 1)." A product that gets beyond state 0 has the feature a, and the second move wants that it has not. Assumes nothing.
 use mathlib.Core.Bool.{Bool, true, false, not}
-use mathlib.Core.List.{List, [], _∷_, List·Memᴰ·head, List·Memᴰ·tail}
+use mathlib.Core.List.{[], _∷_, List·Memᴰ·head, List·Memᴰ·tail}
 use mathlib.Core.Path.{_≡_, refl}
 use Prim.Native.Nat.{ℕ, zero, suc, _≤_, _<_}
 use native.Mathlib.Omega.{arith}
 use Rattle.products.specs.declared.Found.the-variants.{At}
 use Rattle.fields.specs.Bytes.{sameBytes, allNameBytes, isName, isAction, readState, run, afterRun}
 use Rattle.fields.specs.Cutting.{cut}
-use Rattle.guards.specs.Guard.{always, feature, neg, holds}
+use Rattle.guards.specs.Guard.{feature, holds}
 use Rattle.guards.specs.Reading.{number, parts, readGuard, readWhole}
-use Rattle.sheet.specs.Sheet.{Move, Sheet, names}
+use Rattle.sheet.specs.Sheet.{names}
 use Rattle.sheet.specs.Reading.{kept, ftsLine, featureLine, validLine, startLine, guardedMove, moveLine, moved, readLine, ended, readLines, last, readSheet}
 use Rattle.sheet.specs.Reading as reading
 use Rattle.family.specs.Ways.{Valid, Reached, begin, by}

@@ -8,14 +8,13 @@ use native.Mathlib.Nat.{eq-zero-or-pos}
 use native.Mathlib.Omega.{arith}
 use lib.ListN.{length, take, replicate, length-replicate, length-append, length-take}
 use lib.Seq.{take-all}
-use Rattle.text.specs.Text.{decimal}
 use Rattle.fields.specs.Bytes.{sameBytes, allNameBytes, isName, isAction, readState, run, afterRun}
 use Rattle.fields.specs.Cutting.{cut, join, close}
 use Rattle.guards.specs.Guard.{holds}
 use Rattle.guards.specs.Reading.{number, parts, readGuard, readWhole}
 use Rattle.sheet.specs.Sheet.{Sheet, names}
 use Rattle.sheet.specs.Spelling.{joined, textOf}
-use Rattle.sheet.specs.Reading.{kept, refused, ftsLine, featureLine, validLine, startLine, readLine, ended, readLines, last, readSheet}
+use Rattle.sheet.specs.Reading.{refused, ftsLine, featureLine, validLine, startLine, readLine, ended, readLines, last, readSheet}
 use Rattle.sheet.specs.Reading as reading
 use Rattle.sheet.proofs.Accepted.{refused-number, kept-refused}
 use Rattle.sheet.proofs.Whole.{read-long, read-empty}

@@ -1,5 +1,5 @@
 -- The sheet of three lines, `fts 1`, `valid 1`, `start 0`: one product, one state, no move. Assumes nothing.
-use mathlib.Core.List.{List, [], _∷_, List·Memᴰ·not-nil}
+use mathlib.Core.List.{[], _∷_, List·Memᴰ·not-nil}
 use mathlib.Core.Path.{_≡_, refl}
 use Prim.Native.Nat.{ℕ, _≤_, _<_}
 use native.Mathlib.Omega.{arith}
@@ -9,7 +9,7 @@ use Rattle.fields.specs.Bytes.{sameBytes, readState}
 use Rattle.fields.specs.Cutting.{cut}
 use Rattle.guards.specs.Guard.{always, holds}
 use Rattle.guards.specs.Reading.{readGuard, readWhole}
-use Rattle.sheet.specs.Sheet.{Sheet, names}
+use Rattle.sheet.specs.Sheet.{names}
 use Rattle.sheet.specs.Reading.{kept, ftsLine, validLine, startLine, readLine, ended, readLines, last, readSheet}
 use Rattle.sheet.specs.Reading as reading
 use Rattle.family.specs.Ways.{Valid, begin, Way, none, more, Depth}

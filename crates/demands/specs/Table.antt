@@ -1,7 +1,7 @@
 -- The table of document 01, "Proved together as a single table: the five move rows, states 2 and 3, the depth, the `valid` and `stop` guards above,
 -- the pieced-together way, and the sheet `fts 1`, `valid 1`, `start 0`". Each field is a statement over `readSheet` and the definitions of the
 -- verdicts, under a comment with the row as 01 prints it. Assumes nothing: these are definitions.
-use mathlib.Core.List.{List, [], _∷_}
+use mathlib.Core.List.{[], _∷_}
 use mathlib.Core.Path.{_≡_}
 use Prim.Native.Nat.{ℕ, _≤_, _<_}
 use Prim.Native.String.{String}

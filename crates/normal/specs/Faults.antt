@@ -1,5 +1,5 @@
 -- What a clean sheet's report does not show. Assumes nothing: these are definitions.
-use mathlib.Core.List.{List, List·Memᴰ}
+use mathlib.Core.List.{List·Memᴰ}
 use Prim.Native.Nat.{ℕ}
 use Rattle.sheet.specs.Sheet.{Move, Stop, Sheet}
 use Rattle.verdicts.specs.Verdicts.{DeadMove, FalseOptional, LeadsOut, Stuck, UntrueIn}

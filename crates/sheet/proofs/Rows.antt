@@ -1,6 +1,6 @@
 -- Rows and tables, whatever they hold: one row more, one row less, the row of an element. The relation of a row is a variable throughout, so that
 -- each law serves every table. Assumes nothing.
-use mathlib.Core.Path.{_≡_, refl, sym, ap, ap₂, subst, _∙_}
+use mathlib.Core.Path.{_≡_, refl, sym, ap, ap₂, _∙_}
 use mathlib.Core.Logic.{⊎-elim}
 use mathlib.Core.List.{List, [], _∷_, _++_, List·Memᴰ, List·Memᴰ·head, List·Memᴰ·tail, Memᴰ·append-right}
 use Prim.Native.Nat.{ℕ, suc, _+_, _-_, _≤_, _<_}
