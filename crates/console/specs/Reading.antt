@@ -1,5 +1,5 @@
--- What reading an input leaves in the buffer. Which bytes the system hands over nobody can promise; that they stand in their place, that no
--- more of them are told than there are, and that nothing else is written, can be. Assumes nothing: these are definitions.
+-- What reading an input leaves in the buffer. Which bytes the system hands over, and how many, nobody can promise; that the number told fits the
+-- buffer, and that nothing behind it is written, can be. Assumes nothing: these are definitions.
 use mathlib.Core.Path.{_≡_}
 use mathlib.Core.List.{List}
 use Prim.Native.Nat.{ℕ, zero, suc, _≤_, min}
@@ -11,7 +11,8 @@ use Rattle.console.specs.declared.Input.the-variants.{Whole, Broken}
 use Rattle.console.specs.declared.Piece.{Piece}
 use Rattle.console.specs.declared.Piece.the-variants.{Upto, End, Failed}
 
--- the buffer was `before` and is `after`: of a whole input the first n bytes stand there, and behind them what stood there before
+-- the buffer was `before` and is `after`: it is as long as it was, and the number told of a whole input is no more than that; from there on everything
+-- is as it was. That so many bytes came is not said here.
 abbrev pub Held : List ℕ → List ℕ → Input → Type 0
 Held before after (Whole n) = (n ≤ length after) × (length after ≡ length before) × (drop n after ≡ drop n before)
 Held before after Broken = length after ≡ length before
