@@ -3,7 +3,7 @@ pub mod Once
 pub mod Made
 pub mod Stopped
 pub mod Established
-pub mod Promised
 pub mod Lines
 pub mod Loops
+pub mod Whole
 pub mod Calls

@@ -1,2 +1,2 @@
-pub mod Promise
-pub mod Forms
+pub mod Laying
+pub mod Inside

@@ -6,57 +6,79 @@ use mathlib.Core.Logic.{_↔_}
 use mathlib.Core.Path.{_≡_}
 use Prim.Native.Nat.{ℕ, _≤_}
 use lib.ListN.{length, take}
+use Rattle.refusals.specs.declared.Refusal.{Refusal}
+use Rattle.refusals.specs.Refusal.{refusal}
 use Rattle.sheet.specs.Sheet.{Sheet, names}
 use Rattle.sheet.specs.Reading.{kept, refused, readSheet}
 use Rattle.sheet.specs.Accepted.{Accepted}
 use Rattle.family.specs.Ways.{Depth}
-use Rattle.reporting.specs.declared.Answer as report
-use Rattle.reporting.specs.declared.Answer.the-variants as reported
 use Rattle.reporting.specs.Report.{IsReport}
-use Rattle.reporting.specs.Promise.{ReportPromise}
 use Rattle.normal.specs.Behaviour.{Same}
 use Rattle.normal.specs.Clean.{IsClean}
 use Rattle.normal.specs.Faults.{Faultless}
-use Rattle.cleaning.specs.declared.Answer as clean
-use Rattle.cleaning.specs.declared.Answer.the-variants as cleaned
-use Rattle.cleaning.specs.Promise.{CleanPromise}
+use Rattle.calls.specs.declared.Answer.{Answer}
+use Rattle.calls.specs.declared.Answer.the-variants as one
+use Rattle.calls.specs.declared.Answers.{Answers}
+use Rattle.calls.specs.declared.Answers.the-variants as two
+use Rattle.calls.specs.Promise.{ReportPromise, CleanPromise, BothPromise}
+use Rattle.calls.specs.Shown.{rowOf, lengthOf, rowOfBoth, lengthsOf}
 
--- ---- demand 1: any bytes, any room: the work or a refusal from the table
+-- ---- demand 1: any bytes, any room: the work or a refusal from the table. Each statement is said once for a call with one room, which promises P of
+-- the sheet, the room before, the room after and the answer; P is ReportPromise or CleanPromise.
 
 -- report-determined, clean-determined: any two answers with final rooms that meet the promise for one sheet and one room are equal.
-abbrev pub ReportDetermined : Type 0
-ReportDetermined = (s room x y : List ℕ) (a b : report.Answer) → ReportPromise s room x a → ReportPromise s room y b → (a ≡ b) × (x ≡ y)
+abbrev pub Determined : (List ℕ → List ℕ → List ℕ → Answer → Type 0) → Type 0
+Determined P = (s room x y : List ℕ) (a b : Answer) → P s room x a → P s room y b → (a ≡ b) × (x ≡ y)
 
-abbrev pub CleanDetermined : Type 0
-CleanDetermined = (s room x y : List ℕ) (a b : clean.Answer) → CleanPromise s room x a → CleanPromise s room y b → (a ≡ b) × (x ≡ y)
+-- both-determined: so are the answers and both rooms of the call with two.
+abbrev pub BothDetermined : Type 0
+BothDetermined =
+    (s room clean x y u v : List ℕ) (a b : Answers) → BothPromise s room x clean u a → BothPromise s room y clean v b → (a ≡ b) × (x ≡ y) × (u ≡ v)
 
--- report-refusals, clean-refusals: the number of a refusal is 1 to 11.
-abbrev pub ReportRefusals : Type 0
-ReportRefusals = (s room x : List ℕ) (e n : ℕ) → ReportPromise s room x (reported.Refused e n) → (1 ≤ e) × (e ≤ 11)
+-- report-refusals, clean-refusals, both-refusals: the number of a refusal is 1 to 11.
+abbrev pub Refusals : (List ℕ → List ℕ → List ℕ → Answer → Type 0) → Type 0
+Refusals P = (s room x : List ℕ) (q : Refusal) → P s room x (one.Refused q) → (1 ≤ q .number) × (q .number ≤ 11)
 
-abbrev pub CleanRefusals : Type 0
-CleanRefusals = (s room x : List ℕ) (e n : ℕ) → CleanPromise s room x (cleaned.Refused e n) → (1 ≤ e) × (e ≤ 11)
+abbrev pub BothRefusals : Type 0
+BothRefusals = (s room x clean u : List ℕ) (q : Refusal) → BothPromise s room x clean u (two.Refused q) → (1 ≤ q .number) × (q .number ≤ 11)
 
--- refusals-given: each of 1 to 10 is given, to some sheet; and what the table refuses, both calls refuse so, in every room.
+-- report-told, clean-told, both-told: the row of the table, "0, done, 0" or the refusal's, and the length tell the answer.
+abbrev pub Told : (List ℕ → List ℕ → List ℕ → Answer → Type 0) → Type 0
+Told P = (s room x t desk y : List ℕ) (a b : Answer) → P s room x a → P t desk y b → rowOf a ≡ rowOf b → lengthOf a ≡ lengthOf b → a ≡ b
+
+abbrev pub BothTold : Type 0
+BothTold =
+    (s room x clean u t desk y tidy v : List ℕ) (a b : Answers) → BothPromise s room x clean u a → BothPromise t desk y tidy v b
+    → rowOfBoth a ≡ rowOfBoth b → lengthsOf a ≡ lengthsOf b → a ≡ b
+
+-- refusals-given: each of 1 to 10 is given, to some sheet; and what the table refuses, every call refuses so, in every room.
 abbrev pub RefusalsGiven : Type 0
 RefusalsGiven =
     (e : ℕ) → 1 ≤ e → e ≤ 10
-    → (s : List ℕ) × (n : ℕ) × (readSheet s ≡ refused e n)
-    × ((room x : List ℕ) (a : report.Answer) → ReportPromise s room x a → (a ≡ reported.Refused e n) × (x ≡ room))
-    × ((room x : List ℕ) (a : clean.Answer) → CleanPromise s room x a → (a ≡ cleaned.Refused e n) × (x ≡ room))
+    → (s : List ℕ) × (q : Refusal) × (q .number ≡ e) × (readSheet s ≡ refused q)
+    × ((room x : List ℕ) (a : Answer) → ReportPromise s room x a → (a ≡ one.Refused q) × (x ≡ room))
+    × ((room x : List ℕ) (a : Answer) → CleanPromise s room x a → (a ≡ one.Refused q) × (x ≡ room))
+    × ((room x clean u : List ℕ) (a : Answers) → BothPromise s room x clean u a → (a ≡ two.Refused q) × (x ≡ room) × (u ≡ clean))
 
 -- eleven-given: so is 11, to every accepted sheet, in a room without a byte.
 abbrev pub ElevenGiven : Type 0
 ElevenGiven =
     (s x : List ℕ) (r : Sheet) → readSheet s ≡ kept r
-    → ((a : report.Answer) → ReportPromise s [] x a → a ≡ reported.Refused 11 0) × ((a : clean.Answer) → CleanPromise s [] x a → a ≡ cleaned.Refused 11 0)
+    → ((a : Answer) → ReportPromise s [] x a → a ≡ one.Refused (refusal 11 0)) × ((a : Answer) → CleanPromise s [] x a → a ≡ one.Refused (refusal 11 0))
 
 -- report-cut, clean-cut: of a longer input the first 65,537 bytes are enough, as the programs keep them.
-abbrev pub ReportCut : Type 0
-ReportCut = (s room x : List ℕ) (a : report.Answer) → ReportPromise (take 65537 s) room x a ↔ ReportPromise s room x a
+abbrev pub Cut : (List ℕ → List ℕ → List ℕ → Answer → Type 0) → Type 0
+Cut P = (s room x : List ℕ) (a : Answer) → P (take 65537 s) room x a ↔ P s room x a
 
-abbrev pub CleanCut : Type 0
-CleanCut = (s room x : List ℕ) (a : clean.Answer) → CleanPromise (take 65537 s) room x a ↔ CleanPromise s room x a
+-- both-as-single: "Both texts equal those of the single calls", with the same lengths and rooms, where both single calls are done. What the table refuses
+-- is refused alike; where the single call would give 11 to an accepted sheet, this one gives it line 1 for the report, else line 2 for the clean sheet.
+abbrev pub BothAsSingle : Type 0
+BothAsSingle =
+    (s room x y clean u v : List ℕ) (c : Answers) → BothPromise s room y clean v c
+    → ((m n : ℕ) → ReportPromise s room x (one.Done m) → CleanPromise s clean u (one.Done n) → (c ≡ two.Done m n) × (y ≡ x) × (v ≡ u))
+    × ((q : Refusal) → readSheet s ≡ refused q → (c ≡ two.Refused q) × (y ≡ room) × (v ≡ clean))
+    × ((r : Sheet) (q : Refusal) → readSheet s ≡ kept r → ReportPromise s room x (one.Refused q) → (c ≡ two.Refused (refusal 11 1)) × (y ≡ room) × (v ≡ clean))
+    × ((m : ℕ) (q : Refusal) → ReportPromise s room x (one.Done m) → CleanPromise s clean u (one.Refused q) → (c ≡ two.Refused (refusal 11 2)) × (y ≡ room) × (v ≡ clean))
 
 -- ---- demand 2: the verdicts of the published definitions, and the same moves in the clean sheet
 
@@ -70,7 +92,7 @@ CleanExists = (s : List ℕ) (r : Sheet) → readSheet s ≡ kept r → (x : Lis
 -- verdicts: where `report` is done with n, the sheet is accepted and the first n bytes of the room are its report: each row carries the verdict,
 -- products, count and depth of the definitions, over every valid product.
 abbrev pub Verdicts : Type 0
-Verdicts = (s room x : List ℕ) (n : ℕ) → ReportPromise s room x (reported.Done n) → (r : Sheet) × (readSheet s ≡ kept r) × Accepted r × IsReport _≤_ r (take n x)
+Verdicts = (s room x : List ℕ) (n : ℕ) → ReportPromise s room x (one.Done n) → (r : Sheet) × (readSheet s ≡ kept r) × Accepted r × IsReport _≤_ r (take n x)
 
 -- depth-is-small: "The depth is never more than 63."
 abbrev pub DepthIsSmall : Type 0
@@ -86,7 +108,7 @@ CleanKeepsTheMoves =
 -- cleaned-keeps-the-moves: the same of a run of `clean`, and of the bytes that it laid.
 abbrev pub CleanedKeepsTheMoves : Type 0
 CleanedKeepsTheMoves =
-    (s room x : List ℕ) (n : ℕ) → CleanPromise s room x (cleaned.Done n)
+    (s room x : List ℕ) (n : ℕ) → CleanPromise s room x (one.Done n)
     → (r : Sheet) × (c : Sheet) × (readSheet s ≡ kept r) × (readSheet (take n x) ≡ kept c) × (names (c .features) ≡ names (r .features)) × Same r c
 
 -- ---- demand 3: the clean sheet is a normal form
@@ -107,17 +129,17 @@ CleanIsClean =
 -- two-runs: two runs of `clean` on sheets with the same feature lines lay the same bytes exactly when the sheets behave alike.
 abbrev pub TwoRuns : Type 0
 TwoRuns =
-    (s t u v x y : List ℕ) (m n : ℕ) (r q : Sheet) → CleanPromise s u x (cleaned.Done m) → CleanPromise t v y (cleaned.Done n)
+    (s t u v x y : List ℕ) (m n : ℕ) (r q : Sheet) → CleanPromise s u x (one.Done m) → CleanPromise t v y (one.Done n)
     → readSheet s ≡ kept r → readSheet t ≡ kept q → names (r .features) ≡ names (q .features) → (take m x ≡ take n y) ↔ Same r q
 
 -- clean-again-same: `clean` on what `clean` laid is done, with the same bytes, in every room of that length or more.
 abbrev pub CleanAgainSame : Type 0
 CleanAgainSame =
-    (s u x v y : List ℕ) (m : ℕ) (a : clean.Answer) → CleanPromise s u x (cleaned.Done m) → CleanPromise (take m x) v y a → m ≤ length v
-    → (a ≡ cleaned.Done m) × (take m y ≡ take m x)
+    (s u x v y : List ℕ) (m : ℕ) (a : Answer) → CleanPromise s u x (one.Done m) → CleanPromise (take m x) v y a → m ≤ length v
+    → (a ≡ one.Done m) × (take m y ≡ take m x)
 
 -- clean-reported: `report` on what `clean` laid is a report of a sheet without faults.
 abbrev pub CleanReported : Type 0
 CleanReported =
-    (s u x v y : List ℕ) (m n : ℕ) → CleanPromise s u x (cleaned.Done m) → ReportPromise (take m x) v y (reported.Done n)
+    (s u x v y : List ℕ) (m n : ℕ) → CleanPromise s u x (one.Done m) → ReportPromise (take m x) v y (one.Done n)
     → (c : Sheet) × (readSheet (take m x) ≡ kept c) × IsReport _≤_ c (take n y) × Faultless c

@@ -10,6 +10,8 @@ ghost use Rattle.fields.specs.Bytes.{pieceOf, sameBytes, isLetter};
 ghost use Rattle.guards.specs.Guard.{Guard, Operator, Parts, byteOf, Means, PartsMean};
 ghost use Rattle.guards.specs.Reading.{number, namesOf, named, parts, otherwise, opened, Inside, readGuard, readWhole, Reads, Follows};
 use products::Found;
+use tables::NAME;
+use tables::NAME_END;
 
 // How far a guard was read, or the refusal with the place of the faulty byte.
 pub enum GuardRead {
@@ -51,8 +53,8 @@ pub fn find_name(text: &[u8], names: &[[usize; 2]; 10], count: usize, name: &[u8
     while 0 < i {
         i -= 1;
         let row = names[i];
-        let from = row[0];
-        let upto = row[1];
+        let from = row[NAME];
+        let upto = row[NAME_END];
         if stands_at(text, from, upto, name) {
             return Found::At(i);
         }

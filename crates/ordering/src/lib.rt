@@ -6,6 +6,7 @@ ghost use Prim.Native.Nat.{ℕ, _+_, _≤_, _<_, min};
 ghost use lib.ListN.{length, getD, take, drop};
 ghost use Rattle.ordering.specs.Ordering.{lessBytes, rowKey, keyAt, MadeRow, insertBy, Orders};
 ghost use Rattle.ordering.specs.Halving.{Level, Between};
+use tables::FROM;
 
 // Lays the numbers of those of the first `count` moves that some product of its source's set makes into
 // `order`, in order, and answers how many they are. Rows count as far as both tables reach, 256 at most.
@@ -53,7 +54,7 @@ fn order_row(
     ensures { λ r. ⌜ ((first : List ℕ) → length first ≡ 256 → Orders (keyAt (now (text .entry)) (now (moves .entry))) (MadeRow (now (moves .entry)) (now (guards .entry)) (now (sets .entry))) i first (now (order .entry)) kept → Orders (keyAt (now (text .entry)) (now (moves .entry))) (MadeRow (now (moves .entry)) (now (guards .entry)) (now (sets .entry))) (i + 1) first (now (order .exit)) r) × (r ≤ i + 1) ⌝ }
 {
     let row = moves[i];
-    let from = row[1] % 64;
+    let from = row[FROM] % 64;
     if sets.len() <= from {
         return kept;
     }

@@ -33,6 +33,6 @@ fn answer(text: &[u8], room: &mut [u8]) -> usize {
     );
     match r {
         SheetRead::Kept(_) => text::put_bytes(room, 0, b"accepted\n"),
-        SheetRead::Refused { number, line } => refusals::put_refusal(room, 0, number, line),
+        SheetRead::Refused(refusal) => refusals::put_refusal(room, 0, refusal),
     }
 }

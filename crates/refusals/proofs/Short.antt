@@ -8,6 +8,7 @@ use native.Mathlib.Nat.{pow-suc}
 use lib.ListN.{length, take, length-append}
 use Rattle.text.specs.Text.{Wrote, decimal}
 use Rattle.text.proofs.Laws.{decimal-every, wrote-text, wrote-end}
+use Rattle.refusals.specs.declared.Refusal.{Refusal}
 use Rattle.refusals.specs.Refusal.{refusalText}
 
 -- one digit more is one place more
@@ -24,20 +25,20 @@ pub decimal-places : (n k : ℕ) → n < 10 ^ suc k → length (decimal n) ≤ s
 decimal-places = decimal-every (λ n bs. (k : ℕ) → n < 10 ^ suc k → length bs ≤ suc k) (λ n h k l. omega arith) more-places
 
 -- the line's length
-refusal-length : (e n : ℕ) → length (refusalText e n) ≡ 8 + (length (decimal e) + (1 + (length (decimal n) + 1)))
+refusal-length : (q : Refusal) → length (refusalText q) ≡ 8 + (length (decimal (q .number)) + (1 + (length (decimal (q .line)) + 1)))
 unfolding refusalText
-refusal-length e n = simp length-append (omega arith)
+refusal-length q = simp length-append (omega arith)
 
 -- a refusal's line has at most 33 bytes
-pub refusal-short : (e n : ℕ) → e < 2 ^ 8 → n < 2 ^ 64 → length (refusalText e n) ≤ 33
-refusal-short e n h g =
-    let i = decimal-places e 2 (omega arith) in
-    let j = decimal-places n 19 (omega arith) in
-    let l = refusal-length e n in
+pub refusal-short : (q : Refusal) → q .number < 2 ^ 8 → q .line < 2 ^ 64 → length (refusalText q) ≤ 33
+refusal-short q h g =
+    let i = decimal-places (q .number) 2 (omega arith) in
+    let j = decimal-places (q .line) 19 (omega arith) in
+    let l = refusal-length q in
     omega arith
 
 -- so a room of 33 bytes takes it whole: what stands before the answer is the line
-pub refusal-whole : {l l′ : List ℕ} {e n r : ℕ} → Wrote l 0 (refusalText e n) l′ r → e < 2 ^ 8 → n < 2 ^ 64 → 33 ≤ length l → take r l′ ≡ refusalText e n
-refusal-whole {l} {l′} {e} {n} w h g b =
-    let s = refusal-short e n h g in
+pub refusal-whole : {l l′ : List ℕ} {q : Refusal} {r : ℕ} → Wrote l 0 (refusalText q) l′ r → q .number < 2 ^ 8 → q .line < 2 ^ 64 → 33 ≤ length l → take r l′ ≡ refusalText q
+refusal-whole {q = q} w h g b =
+    let s = refusal-short q h g in
     rw (wrote-end w (omega arith)) (wrote-text w (omega arith))

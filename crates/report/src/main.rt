@@ -1,9 +1,9 @@
 // Reads one sheet from standard input and writes its report, or the refusal, to standard output.
 use console::Input;
-use reporting::Answer;
 ghost use Prim.Native.Nat.{_≤_};
 ghost use lib.ListN.{length, take};
-ghost use Rattle.report.specs.Printed.{Printed};
+ghost use Rattle.calls.specs.Promise.{ReportPromise};
+ghost use Rattle.calls.specs.Shown.{Printed};
 
 fn main() {
     let mut buf = [0u8; 65537];
@@ -19,11 +19,8 @@ fn main() {
 // Lays the report into the room, or the line of the refusal; answers how many bytes that is.
 fn answer(sheet: &[u8], room: &mut [u8]) -> usize
     requires { ⌜ 33 ≤ length (now room) ⌝ }
-    ensures { λ r. ⌜ Printed (now (sheet .entry)) (length (now (room .entry))) (take r (now (room .exit))) ⌝ }
+    ensures { λ n. ⌜ Printed (ReportPromise (now (sheet .entry))) (now (room .entry)) (take n (now (room .exit))) ⌝ }
 {
-    let r = reporting::report(sheet, room);
-    match r {
-        Answer::Done(m) => m,
-        Answer::Refused { number, line } => refusals::put_refusal(room, 0, number, line),
-    }
+    let a = calls::report(sheet, room);
+    calls::put_answer(a, room)
 }

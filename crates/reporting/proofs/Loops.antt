@@ -37,7 +37,8 @@ use Rattle.verdicts.proofs.Shown.{Tells, guards-none}
 use Rattle.verdicts.proofs.Answers.{none-move, none-stop}
 use Rattle.verdicts.proofs.Meaning.{named-means, reached-agree, count-judged, move-judged, state-judged, stop-judged}
 use Rattle.reporting.specs.Report.{moveRow, stateRow, stopRow, MoveRows, StateRows, StopRows}
-use Rattle.reporting.specs.Promise.{Ready, Outward, Marked, Told}
+use Rattle.reporting.specs.Laying.{Ready, Outward}
+use Rattle.reporting.specs.Inside.{Marked, Told}
 use Rattle.sheet.proofs.Accepted.{good-move, good-stop}
 
 -- ---- one row more

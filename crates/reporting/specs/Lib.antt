@@ -1,2 +1,3 @@
 pub mod Report
-pub mod Promise
+pub mod Laying
+pub mod Inside

@@ -10,6 +10,7 @@ use lib.Dec.{eqb, leb, ltb}
 use lib.ListN.{length}
 use lib.Pow.{pow-mono}
 use Rattle.text.specs.Text.{decimal}
+use Rattle.refusals.specs.declared.Refusal.{Refusal}
 use Rattle.products.specs.declared.Found.{Found}
 use Rattle.products.specs.declared.Found.the-variants.{At, Nothing}
 use Rattle.fields.specs.declared.Number.{Number}
@@ -34,23 +35,23 @@ InTable e = (leb 1 e && leb e 10) ≡ true
 -- an answer that is refused by a number of the table, or kept with the property P
 pub data Told {A : Type 0} (P : A → Type 0) : Answer A → Type 0 where
   keeps : {x : A} → P x → Told P (kept x)
-  refuses : (e n : ℕ) → InTable e → Told P (refused e n)
+  refuses : {q : Refusal} → InTable (q .number) → Told P (refused q)
 
 pub told-kept : {A : Type 0} {P : A → Type 0} {a : Answer A} {x : A} → Told P a → a ≡ kept x → P x
 told-kept {x = x} (keeps {x = y} p) e = let z : y ≡ x = cc in rw z at p
-told-kept (refuses d n h) e = let z : _≡_ {A = ℕ} 0 1 = cc in absurd (omega arith)
+told-kept (refuses h) e = let z : _≡_ {A = ℕ} 0 1 = cc in absurd (omega arith)
 
-pub told-refused : {A : Type 0} {P : A → Type 0} {a : Answer A} {e n : ℕ} → Told P a → a ≡ refused e n → (1 ≤ e) × (e ≤ 10)
-told-refused (keeps p) q = let z : _≡_ {A = ℕ} 0 1 = cc in absurd (omega arith)
-told-refused {e = e} (refuses d n h) q =
-    let z : d ≡ e = cc in
-    let k = and-eq-true-iff (leb 1 e) (leb e 10) .0 (rw z at h) in
-    (leb-true 1 e (k .0), leb-true e 10 (k .1))
+pub told-refused : {A : Type 0} {P : A → Type 0} {a : Answer A} {q : Refusal} → Told P a → a ≡ refused q → (1 ≤ q .number) × (q .number ≤ 10)
+told-refused (keeps p) e = let z : _≡_ {A = ℕ} 0 1 = cc in absurd (omega arith)
+told-refused {q = q} (refuses {q = d} h) e =
+    let z : d ≡ q = cc in
+    let k = and-eq-true-iff (leb 1 (q .number)) (leb (q .number) 10) .0 (rw z at h) in
+    (leb-true 1 (q .number) (k .0), leb-true (q .number) 10 (k .1))
 
 -- ---- what each test tells
 
 pub told-if : {A : Type 0} {P : A → Type 0} {a : Answer A} (e n : ℕ) (t : Bool) → InTable e → (t ≡ false → Told P a) → Told P (refuseIf t e n a)
-told-if e n true h f = refuses e n h
+told-if e n true h f = refuses h
 told-if e n false h f = f refl
 
 pub told-state : {P : State → Type 0} {k : ℕ → Answer State} (n : ℕ) (x : List ℕ) → ((q : ℕ) → q ≤ 63 → x ≡ decimal q → Told P (k q))
@@ -58,7 +59,7 @@ pub told-state : {P : State → Type 0} {k : ℕ → Answer State} (n : ℕ) (x 
 told-state {P} {k} n x f = go (readState x) refl
   where
     go : (o : Number) → readState x ≡ o → Told P (stated n o k)
-    go Bad e = refuses 4 n refl
+    go Bad e = refuses refl
     go (Of q) e = f q (state-small x e) (state-written x e)
 
 pub told-guard : {P : State → Type 0} {k : Guard → Answer State} (n : ℕ) (fs : List Feature) (x : List ℕ)
@@ -67,7 +68,10 @@ pub told-guard : {P : State → Type 0} {k : Guard → Answer State} (n : ℕ) (
 told-guard {P} {k} n fs x f = go (readWhole (names fs) x) refl
   where
     go : (o : Outcome) → readWhole (names fs) x ≡ o → Told P (guarded n o k)
-    go (faulty e bs) q = let h = whole-faulty (names fs) x q in refuses e n (rw (le-leb 1 e (omega (arith, h .0)), le-leb e 10 (omega (arith, h .1))))
+    go (faulty e bs) q =
+        let h = whole-faulty (names fs) x q in
+        let i : InTable e = rw (le-leb 1 e (omega (arith, h .0)), le-leb e 10 (omega (arith, h .1))) in
+        refuses i
     go (took g rest) q =
         let h = whole-exactly (names fs) x q in
         f g (record { declared = rw (names-length fs) at (h .2); nested = h .3 }) (h .1)
@@ -98,12 +102,12 @@ not-known Nothing e = refl
 module _ (n at : ℕ) (st : State) (sound : Sound st) where
   fts-told : st .section ≤ 1 → (x : One) → Told Sound (ftsLine n st x)
   unfolding ftsLine
-  fts-told h notOne = refuses 3 n refl
+  fts-told h notOne = refuses refl
   fts-told h (only x) = told-if 3 n (not (sameBytes x editionWord)) refl (λ t. keeps (record { early = λ l. sound .early h; limits = sound .limits }))
 
   feature-told : st .section ≤ 1 → (x : One) → Told Sound (featureLine n at st x)
   unfolding featureLine names
-  feature-told h notOne = refuses 3 n refl
+  feature-told h notOne = refuses refl
   feature-told h (only x) =
       let e = sound .early h in
       let l = sound .limits in
@@ -125,7 +129,7 @@ module _ (n at : ℕ) (st : State) (sound : Sound st) where
 
   valid-told : (x : One) → Told Sound (validLine n st x)
   unfolding validLine
-  valid-told notOne = refuses 3 n refl
+  valid-told notOne = refuses refl
   valid-told (only x) =
       let l = sound .limits in
       told-guard n (st .sheet .features) x
@@ -136,7 +140,7 @@ module _ (n at : ℕ) (st : State) (sound : Sound st) where
 
   start-told : (x : One) → Told Sound (startLine n st x)
   unfolding startLine
-  start-told notOne = refuses 3 n refl
+  start-told notOne = refuses refl
   start-told (only x) =
       let l = sound .limits in
       told-state n x
@@ -147,7 +151,7 @@ module _ (n at : ℕ) (st : State) (sound : Sound st) where
 
   move-told : (x : Four) → Told Sound (moveLine n at st x)
   unfolding moveLine guardedMove
-  move-told notFour = refuses 3 n refl
+  move-told notFour = refuses refl
   move-told (four f a t g) =
       let l = sound .limits in
       told-if 8 n (leb 256 (length (st .sheet .moves))) refl
@@ -171,7 +175,7 @@ module _ (n at : ℕ) (st : State) (sound : Sound st) where
 
   stop-told : (x : Two) → Told Sound (stopLine n st x)
   unfolding stopLine
-  stop-told notTwo = refuses 3 n refl
+  stop-told notTwo = refuses refl
   stop-told (two q g) =
       let l = sound .limits in
       told-state n q
@@ -193,10 +197,10 @@ module _ (n at : ℕ) (st : State) (sound : Sound st) where
   kind-told : (w : List ℕ) (fs : List (List ℕ)) → Told Sound (byKind (kindIn (st .section) w) n at st fs)
   kind-told w fs =
       by-kind (st .section) w (λ k. Told Sound (byKind k n at st fs)) (λ e x. fts-told (omega arith) (asOne fs)) (λ e x. feature-told (omega arith) (asOne fs))
-      (λ e x. valid-told (asOne fs)) (λ e x. start-told (asOne fs)) (λ e x. stop-told (asTwo fs)) (λ e x. move-told (asFour fs)) (refuses 3 n refl)
+      (λ e x. valid-told (asOne fs)) (λ e x. start-told (asOne fs)) (λ e x. stop-told (asTwo fs)) (λ e x. move-told (asFour fs)) (refuses refl)
 
 word-told : (n at : ℕ) (st : State) → Sound st → (fs : List (List ℕ)) → Told Sound (byWord n at st fs)
-word-told n at st sound [] = refuses 3 n refl
+word-told n at st sound [] = refuses refl
 word-told n at st sound (w ∷ fs) = kind-told n (at + length w + 1) st sound w fs
 
 -- ---- all lines, and the end
@@ -204,7 +208,7 @@ word-told n at st sound (w ∷ fs) = kind-told n (at + length w + 1) st sound w 
 pub told-on : {P : State → Type 0} {Q : Sheet → Type 0} {a : Answer State} {k : State → Answer Sheet} → Told P a → ((st : State) → P st → Told Q (k st))
     → Told Q (goOn a k)
 told-on (keeps {x = st} p) f = f st p
-told-on (refuses e n h) f = refuses e n h
+told-on (refuses h) f = refuses h
 
 ended-told : (n : ℕ) (st : State) → Sound st → Told Accepted (ended n st)
 unfolding ended
@@ -244,8 +248,8 @@ pub accepted : (s : List ℕ) {r : Sheet} → readSheet s ≡ kept r → Accepte
 accepted s e = told-kept (sheet-told s) e
 
 -- refusals have the numbers of the table
-pub refused-number : (s : List ℕ) {e n : ℕ} → readSheet s ≡ refused e n → (1 ≤ e) × (e ≤ 10)
-refused-number s q = told-refused (sheet-told s) q
+pub refused-number : (s : List ℕ) {q : Refusal} → readSheet s ≡ refused q → (1 ≤ q .number) × (q .number ≤ 10)
+refused-number s e = told-refused (sheet-told s) e
 
 -- a valid product of such a sheet is a product of its features, and so below 1,024
 pub valid-small : {r : Sheet} {p : ℕ} → Accepted r → isValid r p ≡ true → (p < 2 ^ length (r .features)) × (holds (r .valid) p ≡ true) × (p < 1024)
@@ -264,5 +268,5 @@ good-stop {n} g (List·Memᴰ·head e) = rw e (g .0)
 good-stop g (List·Memᴰ·tail i) = good-stop (g .2) i
 
 -- no sheet is both kept and refused
-pub kept-refused : (s : List ℕ) {r : Sheet} {e n : ℕ} → readSheet s ≡ kept r → readSheet s ≡ refused e n → ⊥
+pub kept-refused : (s : List ℕ) {r : Sheet} {q : Refusal} → readSheet s ≡ kept r → readSheet s ≡ refused q → ⊥
 kept-refused s a b = let z : _≡_ {A = ℕ} 0 1 = cc in omega arith

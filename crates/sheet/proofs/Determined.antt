@@ -82,6 +82,6 @@ sheet-determined m g t h s (whole.Kept c) (whole.Kept d) ((r, p, stands), k) ((v
     let e : r ≡ v = cc in
     let z = tables-determined x y k l stands (rw (sym e) at for) in
     (ap whole.Kept (z .0), z .1)
-sheet-determined m g t h s (whole.Kept c) (whole.Refused e n) ((r, p, stands), k) q x y = let z : _≡_ {A = ℕ} 0 1 = cc in absurd (omega arith)
-sheet-determined m g t h s (whole.Refused e n) (whole.Kept d) p ((v, q, for), l) x y = let z : _≡_ {A = ℕ} 0 1 = cc in absurd (omega arith)
-sheet-determined m g t h s (whole.Refused e n) (whole.Refused d k) p q x y = (cc, p .1 ∙ sym (q .1))
+sheet-determined m g t h s (whole.Kept c) (whole.Refused e) ((r, p, stands), k) q x y = let z : _≡_ {A = ℕ} 0 1 = cc in absurd (omega arith)
+sheet-determined m g t h s (whole.Refused e) (whole.Kept d) p ((v, q, for), l) x y = let z : _≡_ {A = ℕ} 0 1 = cc in absurd (omega arith)
+sheet-determined m g t h s (whole.Refused e) (whole.Refused d) p q x y = (cc, p .1 ∙ sym (q .1))

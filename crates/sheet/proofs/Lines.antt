@@ -10,6 +10,8 @@ use lib.Dec.{leb}
 use lib.ListN.{length, drop, set, length-set}
 use Rattle.products.specs.declared.Found.{Found}
 use Rattle.products.specs.declared.Found.the-variants.{At, Nothing}
+use Rattle.refusals.specs.declared.Refusal.{Refusal}
+use Rattle.refusals.specs.Refusal.{refusal}
 use Rattle.fields.specs.declared.Number.{Number}
 use Rattle.fields.specs.declared.Number.the-variants.{Of, Bad}
 use Rattle.fields.specs.Bytes.{sameBytes, isName, readState}
@@ -28,8 +30,8 @@ use Rattle.sheet.specs.Tables.{Tables, tables, Lies, Filled}
 use Rattle.sheet.specs.Inside.{Stands, Says}
 use Rattle.sheet.proofs.Rows.{rows-length, table-put, names-of}
 
-pub refuses : {s : List ℕ} {T : Tables} {seen : List ℕ} {r : LineRead} {a : Answer State} {e n : ℕ} → r ≡ Refused e n → a ≡ refused e n → Says s T seen r a
-refuses z q = record { is = rw z q }
+pub refuses : {s : List ℕ} {T : Tables} {seen : List ℕ} {r : LineRead} {a : Answer State} {q : Refusal} → r ≡ Refused q → a ≡ refused q → Says s T seen r a
+refuses z h = record { is = rw z h }
 
 pub keeps : {s : List ℕ} {T : Tables} {seen : List ℕ} {c : Progress} {a : Answer State} {st : State} → a ≡ kept st → Stands s T seen c st → Says s T seen (Kept c) a
 keeps {st = st} q h = record { is = (st, q, h) }
@@ -46,11 +48,11 @@ module _ (l : List ℕ) (o : Bool) (h : IsOne l o) where
 module _ (l : List ℕ) (o : Bool) (h : IsOne l o) (n : ℕ) (st : State) {s : List ℕ} {T : Tables} {seen : List ℕ} where
   -- ---- `fts`
 
-  pub fts-wrong : {r : LineRead} → not o ≡ true → r ≡ Refused 3 n → Says s T seen r (ftsLine n st (asOne (fields l)))
+  pub fts-wrong : {r : LineRead} → not o ≡ true → r ≡ Refused (refusal 3 n) → Says s T seen r (ftsLine n st (asOne (fields l)))
   unfolding ftsLine
   fts-wrong e z = refuses z (ap (ftsLine n st) (not-one l o h e))
 
-  pub fts-other : {y : Bool} {r : LineRead} → not o ≡ false → y ≡ sameBytes l editionWord → not y ≡ true → r ≡ Refused 3 n
+  pub fts-other : {y : Bool} {r : LineRead} → not o ≡ false → y ≡ sameBytes l editionWord → not y ≡ true → r ≡ Refused (refusal 3 n)
       → Says s T seen r (ftsLine n st (asOne (fields l)))
   unfolding ftsLine
   fts-other {y} e k t z =
@@ -67,11 +69,11 @@ module _ (l : List ℕ) (o : Bool) (h : IsOne l o) (n : ℕ) (st : State) {s : L
 
   -- ---- `start`
 
-  pub start-wrong : {r : LineRead} → not o ≡ true → r ≡ Refused 3 n → Says s T seen r (startLine n st (asOne (fields l)))
+  pub start-wrong : {r : LineRead} → not o ≡ true → r ≡ Refused (refusal 3 n) → Says s T seen r (startLine n st (asOne (fields l)))
   unfolding startLine
   start-wrong e z = refuses z (ap (startLine n st) (not-one l o h e))
 
-  pub start-bad : {q : Number} {r : LineRead} → not o ≡ false → q ≡ Bad → q ≡ readState l → r ≡ Refused 4 n → Says s T seen r (startLine n st (asOne (fields l)))
+  pub start-bad : {q : Number} {r : LineRead} → not o ≡ false → q ≡ Bad → q ≡ readState l → r ≡ Refused (refusal 4 n) → Says s T seen r (startLine n st (asOne (fields l)))
   unfolding startLine
   start-bad e b k z =
       let f : readState l ≡ Bad = sym k ∙ b in
@@ -108,7 +110,7 @@ pub filled-still : {s : List ℕ} {nm : List (List ℕ)} {v w : List ℕ} {m g t
 filled-still h = record { ten = h .ten; names = h .names; moves = h .moves; moveGuards = h .moveGuards; stops = h .stops; stopGuards = h .stopGuards }
 
 module _ (n : ℕ) (ns : List (List ℕ)) (x : List ℕ) (rd : GuardRead) (set : List ℕ) (h : Reads x 0 rd set (readWhole ns x)) (k : Guard → Answer State) where
-  pub guard-refused : {e p : ℕ} → rd ≡ guard.Refused e p → guarded n (readWhole ns x) k ≡ refused e n
+  pub guard-refused : {e p : ℕ} → rd ≡ guard.Refused e p → guarded n (readWhole ns x) k ≡ refused (refusal e n)
   guard-refused e = ap (λ (a : Outcome). guarded n a k) (reads-as x 0 set (readWhole ns x) e h .1)
 
   pub guard-taken : {p : ℕ} → rd ≡ guard.Upto p → (g : Guard) × (readWhole ns x ≡ took g (drop p x)) × Means set g × (guarded n (readWhole ns x) k ≡ k g)
@@ -119,12 +121,12 @@ module _ (n : ℕ) (ns : List (List ℕ)) (x : List ℕ) (rd : GuardRead) (set :
 -- ---- `feature`
 
 module _ (l : List ℕ) (o : Bool) (h : IsOne l o) (n at : ℕ) (st : State) {s : List ℕ} where
-  pub feature-wrong : {T : Tables} {seen : List ℕ} {r : LineRead} → not o ≡ true → r ≡ Refused 3 n → Says s T seen r (featureLine n at st (asOne (fields l)))
+  pub feature-wrong : {T : Tables} {seen : List ℕ} {r : LineRead} → not o ≡ true → r ≡ Refused (refusal 3 n) → Says s T seen r (featureLine n at st (asOne (fields l)))
   unfolding featureLine
   feature-wrong e z = refuses z (ap (featureLine n at st) (not-one l o h e))
 
   module _ (e : not o ≡ false) {T : Tables} {seen : List ℕ} {c : Progress} (so : Stands s T seen c st) where
-    pub feature-full : {r : LineRead} → 10 ≤ c .features → r ≡ Refused 8 n → Says s T seen r (featureLine n at st (asOne (fields l)))
+    pub feature-full : {r : LineRead} → 10 ≤ c .features → r ≡ Refused (refusal 8 n) → Says s T seen r (featureLine n at st (asOne (fields l)))
     unfolding featureLine
     feature-full m z =
         let few = features-counted so in
@@ -134,7 +136,7 @@ module _ (l : List ℕ) (o : Bool) (h : IsOne l o) (n at : ℕ) (st : State) {s 
       few : leb 10 (length (st .sheet .features)) ≡ false
       few = let z = features-counted so in lt-leb 10 (length (st .sheet .features)) (omega arith)
 
-      pub feature-bad : {y : Bool} {r : LineRead} → y ≡ isName l → not y ≡ true → r ≡ Refused 4 n → Says s T seen r (featureLine n at st (asOne (fields l)))
+      pub feature-bad : {y : Bool} {r : LineRead} → y ≡ isName l → not y ≡ true → r ≡ Refused (refusal 4 n) → Says s T seen r (featureLine n at st (asOne (fields l)))
       unfolding featureLine
       feature-bad {y} k t z =
           let f : isName l ≡ false = sym k ∙ not-true y t in
@@ -147,7 +149,7 @@ module _ (l : List ℕ) (o : Bool) (h : IsOne l o) (n at : ℕ) (st : State) {s 
         here : number (names (st .sheet .features)) l ≡ f
         here = ap (λ (ns : List (List ℕ)). number ns l) (sym (names-stand so)) ∙ sym q
 
-        pub feature-repeat : {i : ℕ} {r : LineRead} → f ≡ At i → r ≡ Refused 9 n → Says s T seen r (featureLine n at st (asOne (fields l)))
+        pub feature-repeat : {i : ℕ} {r : LineRead} → f ≡ At i → r ≡ Refused (refusal 9 n) → Says s T seen r (featureLine n at st (asOne (fields l)))
         unfolding featureLine
         feature-repeat a z = refuses z (ap (featureLine n at st) (is-one l o h e) ∙ rw (few, good, here, a))
 
@@ -186,13 +188,13 @@ feature-kept l o h n at st e so few k t q a lies =
 -- ---- `valid`
 
 module _ (l : List ℕ) (o : Bool) (h : IsOne l o) (n : ℕ) (st : State) {s : List ℕ} where
-  pub valid-wrong : {T : Tables} {seen : List ℕ} {r : LineRead} → not o ≡ true → r ≡ Refused 3 n → Says s T seen r (validLine n st (asOne (fields l)))
+  pub valid-wrong : {T : Tables} {seen : List ℕ} {r : LineRead} → not o ≡ true → r ≡ Refused (refusal 3 n) → Says s T seen r (validLine n st (asOne (fields l)))
   unfolding validLine
   valid-wrong e z = refuses z (ap (validLine n st) (not-one l o h e))
 
   module _ (e : not o ≡ false) (rd : GuardRead) (x : List ℕ) {nm : List (List ℕ)} {v : List ℕ} {m g t d : List (List ℕ)} {seen : List ℕ} {c : Progress}
       (so : Stands s (tables nm v m g t d) seen c st) (q : Reads l 0 rd x (readWhole (namesOf s nm (min (c .features) 10)) l)) where
-    pub valid-refused : {T : Tables} {i p : ℕ} {r : LineRead} → rd ≡ guard.Refused i p → r ≡ Refused i n → Says s T seen r (validLine n st (asOne (fields l)))
+    pub valid-refused : {T : Tables} {i p : ℕ} {r : LineRead} → rd ≡ guard.Refused i p → r ≡ Refused (refusal i n) → Says s T seen r (validLine n st (asOne (fields l)))
     unfolding validLine
     valid-refused a z = refuses z (ap (validLine n st) (is-one l o h e) ∙ guard-refused n (names (st .sheet .features)) l rd x (guard-stands l rd x so q) _ a)
 

@@ -9,6 +9,7 @@ use borrow.Author.Tests.{not-true, not-false, le-leb, lt-leb}
 use lib.Dec.{leb}
 use lib.ListN.{length, getD, set}
 use Rattle.products.specs.Sets.{oneIf}
+use Rattle.refusals.specs.Refusal.{refusal}
 use Rattle.fields.specs.declared.Number.{Number}
 use Rattle.fields.specs.declared.Number.the-variants.{Of, Bad}
 use Rattle.fields.specs.declared.TwoFields.{TwoFields}
@@ -80,7 +81,7 @@ lies-part {s} {l} {at} b e h k m =
 module _ (n : ℕ) (st : State) (from : ℕ) (action : List ℕ) (place to : ℕ) (x : List ℕ) (rd : GuardRead) (gs : List ℕ)
     {s : List ℕ} {nm : List (List ℕ)} {v : List ℕ} {m g t d : List (List ℕ)} {seen : List ℕ} {c : Progress}
     (so : Stands s (tables nm v m g t d) seen c st) (q : Reads x 0 rd gs (readWhole (namesOf s nm (min (c .features) 10)) x)) where
-  pub move-refused : {T : Tables} {i p : ℕ} {r : LineRead} → rd ≡ guard.Refused i p → r ≡ Refused i n → Says s T seen r (guardedMove n st from action place to x)
+  pub move-refused : {T : Tables} {i p : ℕ} {r : LineRead} → rd ≡ guard.Refused i p → r ≡ Refused (refusal i n) → Says s T seen r (guardedMove n st from action place to x)
   unfolding guardedMove
   move-refused a z = refuses z (guard-refused n (names (st .sheet .features)) x rd gs (guard-stands x rd gs so q) _ a)
 
@@ -97,7 +98,7 @@ module _ (n : ℕ) (st : State) (from : ℕ) (action : List ℕ) (place to : ℕ
         let e : min (c .moves) (length m) ≡ c .moves = omega arith in
         has (st .sheet .moves) (rw e (so .filled .moves .rows)) (so .marked)
 
-    pub move-repeat : {T : Tables} {r : LineRead} → y ≡ true → r ≡ Refused 9 n → Says s T seen′ r (guardedMove n st from action place to x)
+    pub move-repeat : {T : Tables} {r : LineRead} → y ≡ true → r ≡ Refused (refusal 9 n) → Says s T seen′ r (guardedMove n st from action place to x)
     unfolding guardedMove after
     move-repeat e z =
         let w = guard-taken n (names (st .sheet .features)) x rd gs (guard-stands x rd gs so q) after a in
@@ -174,7 +175,7 @@ module _ (l : List ℕ) {cut : FourFields} {b m d : ℕ} (e : cut ≡ Ends b m d
       subst (Lies s (part l (b + 1) m)) z (lies-part (b + 1) m k (omega arith) (omega arith))
 
 module _ (l : List ℕ) (n at : ℕ) (st : State) {s : List ℕ} where
-  pub move-wrong : {T : Tables} {seen : List ℕ} {cut : FourFields} {r : LineRead} → cut ≡ NotFour → CutsFour l cut → r ≡ Refused 3 n → Says s T seen r (moveLine n at st (asFour (fields l)))
+  pub move-wrong : {T : Tables} {seen : List ℕ} {cut : FourFields} {r : LineRead} → cut ≡ NotFour → CutsFour l cut → r ≡ Refused (refusal 3 n) → Says s T seen r (moveLine n at st (asFour (fields l)))
   unfolding moveLine
   move-wrong e h z = refuses z (ap (moveLine n at st) (subst (CutsFour l) e h))
 
@@ -185,7 +186,7 @@ module _ (l : List ℕ) (n at : ℕ) (st : State) {s : List ℕ} where
     counted : length (st .sheet .moves) ≡ c .moves
     counted = rows-length (so .filled .moves .rows)
 
-    pub move-full : {r : LineRead} → 256 ≤ c .moves → r ≡ Refused 8 n → Says s T seen r (moveLine n at st (asFour (fields l)))
+    pub move-full : {r : LineRead} → 256 ≤ c .moves → r ≡ Refused (refusal 8 n) → Says s T seen r (moveLine n at st (asFour (fields l)))
     unfolding moveLine
     move-full k z = let y = counted in refuses z (rw (cuts, le-leb 256 (length (st .sheet .moves)) (omega arith)))
 
@@ -194,7 +195,7 @@ module _ (l : List ℕ) (n at : ℕ) (st : State) {s : List ℕ} where
       few = let y = counted in lt-leb 256 (length (st .sheet .moves)) (omega arith)
 
       module _ {o : Triple} (q : Tripled (part l 0 b) (part l (b + 1) m) (part l (m + 1) d) o) where
-        pub move-bad : {r : LineRead} → o ≡ triple.Bad → r ≡ Refused 4 n → Says s T seen r (moveLine n at st (asFour (fields l)))
+        pub move-bad : {r : LineRead} → o ≡ triple.Bad → r ≡ Refused (refusal 4 n) → Says s T seen r (moveLine n at st (asFour (fields l)))
         unfolding moveLine
         move-bad f z = refuses z (rw (cuts, few) (tripled-as q f n _))
 
@@ -213,7 +214,7 @@ pub parted-of : (l : List ℕ) {cut : TwoFields} {b : ℕ} → cut ≡ Parted b 
 parted-of l e h = subst (CutsTwo l) e h
 
 module _ (l : List ℕ) (n : ℕ) (st : State) where
-  pub stop-wrong : {s : List ℕ} {T : Tables} {seen : List ℕ} {cut : TwoFields} {r : LineRead} → cut ≡ NotTwo → CutsTwo l cut → r ≡ Refused 3 n → Says s T seen r (stopLine n st (asTwo (fields l)))
+  pub stop-wrong : {s : List ℕ} {T : Tables} {seen : List ℕ} {cut : TwoFields} {r : LineRead} → cut ≡ NotTwo → CutsTwo l cut → r ≡ Refused (refusal 3 n) → Says s T seen r (stopLine n st (asTwo (fields l)))
   unfolding stopLine
   stop-wrong e h z = refuses z (ap (stopLine n st) (subst (CutsTwo l) e h))
 
@@ -221,7 +222,7 @@ module _ (l : List ℕ) (n : ℕ) (st : State) where
     halves : asTwo (fields l) ≡ two (part l 0 b) (part l (b + 1) (length l))
     halves = parted-of l e h .1
 
-    pub stop-state : {s : List ℕ} {T : Tables} {seen : List ℕ} {q : Number} {r : LineRead} → q ≡ Bad → q ≡ readState (part l 0 b) → r ≡ Refused 4 n → Says s T seen r (stopLine n st (asTwo (fields l)))
+    pub stop-state : {s : List ℕ} {T : Tables} {seen : List ℕ} {q : Number} {r : LineRead} → q ≡ Bad → q ≡ readState (part l 0 b) → r ≡ Refused (refusal 4 n) → Says s T seen r (stopLine n st (asTwo (fields l)))
     unfolding stopLine
     stop-state f1 g1 z = let y : readState (part l 0 b) ≡ Bad = sym g1 ∙ f1 in refuses z (rw (halves, y))
 
@@ -245,7 +246,7 @@ module _ (l : List ℕ) (n : ℕ) (st : State) where
       unfolding stopLine x then
       begins = rw (halves, stopping)
 
-      pub stop-refused : {i p : ℕ} {r : LineRead} → rd ≡ guard.Refused i p → r ≡ Refused i n → Says s (tables nm v m g t d) seen r (stopLine n st (asTwo (fields l)))
+      pub stop-refused : {i p : ℕ} {r : LineRead} → rd ≡ guard.Refused i p → r ≡ Refused (refusal i n) → Says s (tables nm v m g t d) seen r (stopLine n st (asTwo (fields l)))
       stop-refused a z = refuses z (begins ∙ guard-refused n (names (st .sheet .features)) x rd gs told then a)
 
       module _ {p : ℕ} (a : rd ≡ guard.Upto p) {y : Bool}
@@ -256,7 +257,7 @@ module _ (l : List ℕ) (n : ℕ) (st : State) where
             let z : min (c .stops) (length t) ≡ c .stops = omega arith in
             has (st .sheet .stops) (rw z (so .filled .stops .rows))
 
-        pub stop-repeat : {r : LineRead} → y ≡ true → r ≡ Refused 9 n → Says s (tables nm v m g t d) seen r (stopLine n st (asTwo (fields l)))
+        pub stop-repeat : {r : LineRead} → y ≡ true → r ≡ Refused (refusal 9 n) → Says s (tables nm v m g t d) seen r (stopLine n st (asTwo (fields l)))
         unfolding then
         stop-repeat i z =
             let u = guard-taken n (names (st .sheet .features)) x rd gs told then a in

@@ -85,7 +85,7 @@ module _ (n at : ℕ) (st : State) (old : Ordered st) (l w : List ℕ) (fs : Fie
   fts-follows : st .section ≡ 0 → w ≡ ftsWord → Told (Follows st l) (ftsLine n st (asOne fs))
   unfolding ftsLine inOrder
   fts-follows e ew =
-      by-one (λ o. Told (Follows st l) (ftsLine n st o)) fs (refuses 3 n refl)
+      by-one (λ o. Told (Follows st l) (ftsLine n st o)) fs (refuses refl)
       (λ x ef. told-if 3 n (not (sameBytes x editionWord)) refl
       (λ t. keeps (record {
         row = ftsFields;
@@ -97,7 +97,7 @@ module _ (n at : ℕ) (st : State) (old : Ordered st) (l w : List ℕ) (fs : Fie
   feature-follows : st .section ≡ 1 → w ≡ featureWord → Told (Follows st l) (featureLine n at st (asOne fs))
   unfolding featureLine inOrder
   feature-follows e ew =
-      by-one (λ o. Told (Follows st l) (featureLine n at st o)) fs (refuses 3 n refl)
+      by-one (λ o. Told (Follows st l) (featureLine n at st o)) fs (refuses refl)
       (λ x ef. told-if 8 n (leb 10 (length (st .sheet .features))) refl
       (λ few. told-if 4 n (not (isName x)) refl
       (λ good. told-if 9 n (isKnown (number (names (st .sheet .features)) x)) refl
@@ -111,7 +111,7 @@ module _ (n at : ℕ) (st : State) (old : Ordered st) (l w : List ℕ) (fs : Fie
   valid-follows : st .section ≡ 1 → w ≡ validWord → Told (Follows st l) (validLine n st (asOne fs))
   unfolding validLine
   valid-follows e ew =
-      by-one (λ o. Told (Follows st l) (validLine n st o)) fs (refuses 3 n refl)
+      by-one (λ o. Told (Follows st l) (validLine n st o)) fs (refuses refl)
       (λ x ef. told-guard n (st .sheet .features) x
       (λ g good eg. keeps (record {
         row = validFields (names (st .sheet .features)) g;
@@ -123,7 +123,7 @@ module _ (n at : ℕ) (st : State) (old : Ordered st) (l w : List ℕ) (fs : Fie
   start-follows : st .section ≡ 2 → w ≡ startWord → Told (Follows st l) (startLine n st (asOne fs))
   unfolding startLine inOrder
   start-follows e ew =
-      by-one (λ o. Told (Follows st l) (startLine n st o)) fs (refuses 3 n refl)
+      by-one (λ o. Told (Follows st l) (startLine n st o)) fs (refuses refl)
       (λ x ef. told-state n x
       (λ q small eq. keeps (record {
         row = startFields q;
@@ -135,7 +135,7 @@ module _ (n at : ℕ) (st : State) (old : Ordered st) (l w : List ℕ) (fs : Fie
   move-follows : st .section ≡ 3 → w ≡ moveWord → Told (Follows st l) (moveLine n at st (asFour fs))
   unfolding moveLine guardedMove inOrder
   move-follows e ew =
-      by-four (λ o. Told (Follows st l) (moveLine n at st o)) fs (refuses 3 n refl)
+      by-four (λ o. Told (Follows st l) (moveLine n at st o)) fs (refuses refl)
       (λ f a t g ef. told-if 8 n (leb 256 (length (st .sheet .moves))) refl
       (λ few. told-state n f
       (λ from lf ff. told-if 4 n (not (isAction a)) refl
@@ -152,7 +152,7 @@ module _ (n at : ℕ) (st : State) (old : Ordered st) (l w : List ℕ) (fs : Fie
   stop-follows : 3 ≤ st .section → w ≡ stopWord → Told (Follows st l) (stopLine n st (asTwo fs))
   unfolding stopLine inOrder
   stop-follows h ew =
-      by-two (λ o. Told (Follows st l) (stopLine n st o)) fs (refuses 3 n refl)
+      by-two (λ o. Told (Follows st l) (stopLine n st o)) fs (refuses refl)
       (λ q g ef. told-state n q
       (λ state small es. told-guard n (st .sheet .features) g
       (λ guard good eg. told-if 9 n (stopped state (st .sheet .stops)) refl
@@ -166,10 +166,10 @@ module _ (n at : ℕ) (st : State) (old : Ordered st) (l w : List ℕ) (fs : Fie
   kind-follows : Told (Follows st l) (byKind (kindIn (st .section) w) n at st fs)
   kind-follows =
       by-kind (st .section) w (λ k. Told (Follows st l) (byKind k n at st fs)) fts-follows feature-follows valid-follows start-follows stop-follows move-follows
-      (refuses 3 n refl)
+      (refuses refl)
 
 word-follows : (n at : ℕ) (st : State) → Ordered st → (l : List ℕ) (fs : Fields) → l ≡ join fs → Told (Follows st l) (byWord n at st fs)
-word-follows n at st old l [] is = refuses 3 n refl
+word-follows n at st old l [] is = refuses refl
 word-follows n at st old l (w ∷ fs) is = kind-follows n (at + length w + 1) st old l w fs is
 
 -- ---- all lines
@@ -186,7 +186,7 @@ rest-more f t = record { rows = f .row ∷ t .rows; are = rw (f .is, t .are); al
 
 told-keep : {A : Type 0} {P Q : A → Type 0} {a : Answer A} → ((x : A) → P x → Q x) → Told P a → Told Q a
 told-keep f (keeps {x = x} p) = keeps (f x p)
-told-keep f (refuses e n h) = refuses e n h
+told-keep f (refuses h) = refuses h
 
 rest-lines : (ls : List (List ℕ)) (n at : ℕ) (st : State) → Ordered st → Told (Rest st ls) (readLines n at st ls)
 unfolding readLines readLine ended joined

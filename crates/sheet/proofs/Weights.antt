@@ -39,13 +39,13 @@ fields-size (b ∷ l) = let y = fields-size l in omega (arith, onto-size (eqb b 
 module _ {P : State → Type 0} where
   some-state : {k : ℕ → Answer State} (n : ℕ) (x : List ℕ) → ((q : ℕ) → 1 ≤ length x → Told P (k q)) → Told P (stated n (readState x) k)
   unfolding readState
-  some-state n [] f = refuses 4 n refl
+  some-state n [] f = refuses refl
   some-state n (b ∷ x) f = told-state n (b ∷ x) (λ q small text. f q (omega arith))
 
   some-guard : {k : Guard → Answer State} (n : ℕ) (fs : List Feature) (x : List ℕ) → ((g : Guard) → 1 ≤ length x → Told P (k g))
       → Told P (guarded n (readWhole (names fs) x) k)
   unfolding readWhole readGuard
-  some-guard n fs [] f = refuses 5 n refl
+  some-guard n fs [] f = refuses refl
   some-guard n fs (b ∷ x) f = told-guard n fs (b ∷ x) (λ g good text. f g (omega arith))
 
 -- ---- what the moves and stops weigh
@@ -59,12 +59,12 @@ pub record Weighs (most : ℕ) (st : State) : Type 0 where
 module _ (n at : ℕ) (st : State) (k : ℕ) where
   fts-weighs : (x : One) → Told (Weighs (weight (st .sheet) + k)) (ftsLine n st x)
   unfolding ftsLine
-  fts-weighs notOne = refuses 3 n refl
+  fts-weighs notOne = refuses refl
   fts-weighs (only x) = told-if 3 n (not (sameBytes x editionWord)) refl (λ t. keeps (record { is = omega arith }))
 
   feature-weighs : (x : One) → Told (Weighs (weight (st .sheet) + k)) (featureLine n at st x)
   unfolding featureLine
-  feature-weighs notOne = refuses 3 n refl
+  feature-weighs notOne = refuses refl
   feature-weighs (only x) =
       told-if 8 n (leb 10 (length (st .sheet .features))) refl
       (λ few. told-if 4 n (not (isName x)) refl
@@ -72,20 +72,20 @@ module _ (n at : ℕ) (st : State) (k : ℕ) where
 
   valid-weighs : (x : One) → Told (Weighs (weight (st .sheet) + k)) (validLine n st x)
   unfolding validLine
-  valid-weighs notOne = refuses 3 n refl
+  valid-weighs notOne = refuses refl
   valid-weighs (only x) = told-guard n (st .sheet .features) x (λ g good text. keeps (record { is = omega arith }))
 
   start-weighs : (x : One) → Told (Weighs (weight (st .sheet) + k)) (startLine n st x)
   unfolding startLine
-  start-weighs notOne = refuses 3 n refl
+  start-weighs notOne = refuses refl
   start-weighs (only x) = told-state n x (λ q small text. keeps (record { is = omega arith }))
 
   move-weighs : (fs : List (List ℕ)) → 5 + size fs ≤ k → Told (Weighs (weight (st .sheet) + k)) (moveLine n at st (asFour fs))
   unfolding moveLine guardedMove
-  move-weighs [] h = refuses 3 n refl
-  move-weighs (f ∷ []) h = refuses 3 n refl
-  move-weighs (f ∷ a ∷ []) h = refuses 3 n refl
-  move-weighs (f ∷ a ∷ t ∷ []) h = refuses 3 n refl
+  move-weighs [] h = refuses refl
+  move-weighs (f ∷ []) h = refuses refl
+  move-weighs (f ∷ a ∷ []) h = refuses refl
+  move-weighs (f ∷ a ∷ t ∷ []) h = refuses refl
   move-weighs (f ∷ a ∷ t ∷ g ∷ []) h =
       told-if 8 n (leb 256 (length (st .sheet .moves))) refl
       (λ few. some-state n f
@@ -93,26 +93,26 @@ module _ (n at : ℕ) (st : State) (k : ℕ) where
       (λ act. let la = action-names a (not-false (isAction a) act) .1 in some-state n t
       (λ to lt. some-guard n (st .sheet .features) g
       (λ guard lg. told-if 9 n (moved from a to (st .sheet .moves)) refl (λ new. keeps (record { is = omega arith })))))))
-  move-weighs (f ∷ a ∷ t ∷ g ∷ x ∷ fs) h = refuses 3 n refl
+  move-weighs (f ∷ a ∷ t ∷ g ∷ x ∷ fs) h = refuses refl
 
   stop-weighs : (fs : List (List ℕ)) → 5 + size fs ≤ k → Told (Weighs (weight (st .sheet) + k)) (stopLine n st (asTwo fs))
   unfolding stopLine
-  stop-weighs [] h = refuses 3 n refl
-  stop-weighs (q ∷ []) h = refuses 3 n refl
+  stop-weighs [] h = refuses refl
+  stop-weighs (q ∷ []) h = refuses refl
   stop-weighs (q ∷ g ∷ []) h =
       some-state n q
       (λ state lq. some-guard n (st .sheet .features) g
       (λ guard lg. told-if 9 n (stopped state (st .sheet .stops)) refl (λ new. keeps (record { is = omega arith }))))
-  stop-weighs (q ∷ g ∷ x ∷ fs) h = refuses 3 n refl
+  stop-weighs (q ∷ g ∷ x ∷ fs) h = refuses refl
 
   kind-weighs : (w : List ℕ) (fs : List (List ℕ)) → suc (length w + size fs) ≤ k → Told (Weighs (weight (st .sheet) + k)) (byKind (kindIn (st .section) w) n at st fs)
   kind-weighs w fs h =
       by-kind (st .section) w (λ k′. Told (Weighs (weight (st .sheet) + k)) (byKind k′ n at st fs)) (λ e x. fts-weighs (asOne fs))
       (λ e x. feature-weighs (asOne fs)) (λ e x. valid-weighs (asOne fs)) (λ e x. start-weighs (asOne fs))
-      (λ e x. stop-weighs fs (omega (arith, ap length x))) (λ e x. move-weighs fs (omega (arith, ap length x))) (refuses 3 n refl)
+      (λ e x. stop-weighs fs (omega (arith, ap length x))) (λ e x. move-weighs fs (omega (arith, ap length x))) (refuses refl)
 
 word-weighs : (n at : ℕ) (st : State) (k : ℕ) (fs : List (List ℕ)) → size fs ≤ k → Told (Weighs (weight (st .sheet) + k)) (byWord n at st fs)
-word-weighs n at st k [] h = refuses 3 n refl
+word-weighs n at st k [] h = refuses refl
 word-weighs n at st k (w ∷ fs) h = kind-weighs n (at + length w + 1) st k w fs h
 
 -- a line adds no more than its bytes and its end

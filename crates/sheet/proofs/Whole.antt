@@ -11,6 +11,8 @@ use lib.ListN.{length, getD, drop, replicate, length-replicate}
 use lib.Pow.{pow-mono}
 use Rattle.products.specs.Sets.{has, oneIf, In}
 use Rattle.products.proofs.Laws.{empty-has, one-true}
+use Rattle.refusals.specs.declared.Refusal.{Refusal}
+use Rattle.refusals.specs.Refusal.{refusal}
 use Rattle.fields.specs.Bytes.{part, FirstAt}
 use Rattle.fields.specs.Cutting.{lines, fields}
 use Rattle.fields.proofs.Parts.{part-length, part-rest}
@@ -38,7 +40,7 @@ use Rattle.sheet.proofs.Weights.{line-weighs}
 -- ---- a line by its word
 
 -- no kind of line has one field only
-alone : (k : LineKind) (n at : ℕ) (st : State) → byKind k n at st [] ≡ refused 3 n
+alone : (k : LineKind) (n at : ℕ) (st : State) → byKind k n at st [] ≡ refused (refusal 3 n)
 unfolding ftsLine featureLine validLine startLine moveLine stopLine
 alone Fts n at st = refl
 alone Feature n at st = refl
@@ -49,7 +51,7 @@ alone Stop n at st = refl
 alone Misplaced n at st = refl
 
 module _ (l : List ℕ) {w : ℕ} (h : FirstAt l 9 0 w) (n at : ℕ) (st : State) where
-  pub line-alone : length l ≤ w → readLine n at st l ≡ refused 3 n
+  pub line-alone : length l ≤ w → readLine n at st l ≡ refused (refusal 3 n)
   unfolding readLine
   line-alone e = ap (byWord n at st) (cut-last h e) ∙ alone (kindIn (st .section) l) n (at + length l + 1) st
 
@@ -98,7 +100,7 @@ one-false false f = refl
 
 module _ {s : List ℕ} {nm : List (List ℕ)} {v : List ℕ} {m g t d : List (List ℕ)} {seen : List ℕ} {c : Progress} {st : State}
     (so : Stands s (tables nm v m g t d) seen c st) (n : ℕ) where
-  pub lacking : {T : Tables} {r : SheetRead} → c .section < 3 → r ≡ whole.Refused 3 n → Ends s T r (ended n st)
+  pub lacking : {T : Tables} {r : SheetRead} → c .section < 3 → r ≡ whole.Refused (refusal 3 n) → Ends s T r (ended n st)
   unfolding ended
   lacking l z = let e = so .section in record { is = rw z (rw (lt-ltb (st .section) 3 (omega arith))) }
 
@@ -120,7 +122,7 @@ module _ {s : List ℕ} {nm : List (List ℕ)} {v : List ℕ} {m g t d : List (L
         let k : 2 ^ length (st .sheet .features) ≤ 2 ^ 10 = pow-mono {j = 10} (omega arith) in
         omega arith
 
-    pub no-product : {T : Tables} {r : SheetRead} → ((q : ℕ) → In y q → ⊥) → r ≡ whole.Refused 10 (c .valid) → Ends s T r (ended n st)
+    pub no-product : {T : Tables} {r : SheetRead} → ((q : ℕ) → In y q → ⊥) → r ≡ whole.Refused (refusal 10 (c .valid)) → Ends s T r (ended n st)
     unfolding ended
     no-product k z =
         let i : (p : ℕ) → p < 2 ^ length (st .sheet .features) → isValid (st .sheet) p ≡ false =
@@ -206,7 +208,7 @@ module _ {s : List ℕ} {T : Tables} {seen : List ℕ} {c : Progress} {n at : �
       said : {q : LineRead} → r ≡ q → SaysIn s T′ seen′ q (readLine n at (go .state) (part s at e))
       said q = subst (λ (x : LineRead). SaysIn s T′ seen′ x (readLine n at (go .state) (part s at e))) q (read (go .state) (go .stands) .is)
 
-      pub going-refused : {T″ : Tables} {i k : ℕ} {a : SheetRead} → r ≡ line.Refused i k → a ≡ whole.Refused i k → Ends s T″ a (fromTop s)
+      pub going-refused : {T″ : Tables} {a : SheetRead} {x : Refusal} → r ≡ line.Refused x → a ≡ whole.Refused x → Ends s T″ a (fromTop s)
       going-refused q z = record { is = rw z (turn ∙ rw (said q)) }
 
       pub going-on : {d : Progress} → r ≡ line.Kept d → Going s T′ seen′ d (n + 1) (e + 1)
@@ -272,11 +274,11 @@ all-blank p q r u = same-lent p q r u
 
 module _ (s : List ℕ) where
   -- what the length alone refuses
-  pub read-long : 65536 < length s → readSheet s ≡ refused 1 0
+  pub read-long : 65536 < length s → readSheet s ≡ refused (refusal 1 0)
   unfolding readSheet
   read-long h = rw (lt-ltb 65536 (length s) h)
 
-  pub read-empty : length s ≡ 0 → readSheet s ≡ refused 2 0
+  pub read-empty : length s ≡ 0 → readSheet s ≡ refused (refusal 2 0)
   unfolding readSheet
   read-empty h = rw (le-ltb 65536 (length s) (omega arith), last-none s h)
 
@@ -285,14 +287,14 @@ module _ (s : List ℕ) where
     blank-lent : Blank T → T ≡ blankTables m g t h
     blank-lent b = b ∙ rw (lent .moves, lent .moveGuards, lent .stops, lent .stopGuards)
 
-    pub sheet-long : {r : SheetRead} → Blank T → 65536 < length s → r ≡ whole.Refused 1 0 → ReadsSheet m g t h s T r
+    pub sheet-long : {r : SheetRead} → Blank T → 65536 < length s → r ≡ whole.Refused (refusal 1 0) → ReadsSheet m g t h s T r
     sheet-long b l z = rw z (read-long l, blank-lent b)
 
-    pub sheet-empty : {r : SheetRead} → Blank T → length s ≡ 0 → r ≡ whole.Refused 2 0 → ReadsSheet m g t h s T r
+    pub sheet-empty : {r : SheetRead} → Blank T → length s ≡ 0 → r ≡ whole.Refused (refusal 2 0) → ReadsSheet m g t h s T r
     sheet-empty b l z = rw z (read-empty l, blank-lent b)
 
     module _ (l : length s ≤ 65536) (some : length s ≡ 0 → ⊥) where
-      pub sheet-open : {r : SheetRead} → Blank T → (getD s (length s - 1) 0 ≡ 10 → ⊥) → r ≡ whole.Refused 2 0 → ReadsSheet m g t h s T r
+      pub sheet-open : {r : SheetRead} → Blank T → (getD s (length s - 1) 0 ≡ 10 → ⊥) → r ≡ whole.Refused (refusal 2 0) → ReadsSheet m g t h s T r
       unfolding readSheet
       sheet-open b e z = rw z (rw (le-ltb 65536 (length s) l, last-at 0 s (omega arith), ne-eqb (getD s (length s - 1) 0) 10 e), blank-lent b)
 
@@ -301,7 +303,7 @@ module _ (s : List ℕ) where
         unfolding readSheet
         begins = rw (le-ltb 65536 (length s) l, last-at 0 s (omega arith), eq-eqb (getD s (length s - 1) 0) 10 e)
 
-        pub sheet-refused : {U : Tables} {r : SheetRead} {i k : ℕ} → Ends s U r (fromTop s) → r ≡ whole.Refused i k → Blank T → ReadsSheet m g t h s T r
+        pub sheet-refused : {U : Tables} {r : SheetRead} {q : Refusal} → Ends s U r (fromTop s) → r ≡ whole.Refused q → Blank T → ReadsSheet m g t h s T r
         sheet-refused f z b = rw z (begins ∙ ends-as z f, blank-lent b)
 
         pub sheet-kept : {r : SheetRead} {c : Counts} → Ends s T r (fromTop s) → r ≡ whole.Kept c → ReadsSheet m g t h s T r

@@ -6,6 +6,7 @@ use mathlib.Core.Path.{_≡_}
 use Prim.Native.Nat.{ℕ, _+_, _-_, _*_, _%_, _≤_, _<_}
 use lib.ListN.{length, drop}
 use Rattle.products.specs.Sets.{has}
+use Rattle.refusals.specs.Refusal.{refusal}
 use Rattle.fields.specs.Bytes.{isAction, readState}
 use Rattle.guards.specs.Guard.{Means}
 use Rattle.sheet.specs.declared.Progress.{Progress}
@@ -61,7 +62,7 @@ pub record Stands (s : List ℕ) (T : Tables) (seen : List ℕ) (c : Progress) (
 -- a line reader's answer, with the tables and marks as they are then, is this answer of the definition
 abbrev pub SaysIn : List ℕ → Tables → List ℕ → LineRead → Answer State → Type 0
 SaysIn s T seen (line.Kept c) a = (st : State) × (a ≡ kept st) × Stands s T seen c st
-SaysIn s T seen (line.Refused e n) a = a ≡ refused e n
+SaysIn s T seen (line.Refused q) a = a ≡ refused q
 
 pub record Says (s : List ℕ) (T : Tables) (seen : List ℕ) (r : LineRead) (a : Answer State) : Type 0 where
   pub is : SaysIn s T seen r a
@@ -72,7 +73,7 @@ withTriple n f a t k = stated n (readState f) (λ from. refuseIf (not (isAction 
 
 abbrev pub TripledIn : List ℕ → List ℕ → List ℕ → Triple → Type 0
 TripledIn f a t (triple.Good from to) = (n : ℕ) (k : ℕ → ℕ → Answer State) → withTriple n f a t k ≡ k from to
-TripledIn f a t triple.Bad = (n : ℕ) (k : ℕ → ℕ → Answer State) → withTriple n f a t k ≡ refused 4 n
+TripledIn f a t triple.Bad = (n : ℕ) (k : ℕ → ℕ → Answer State) → withTriple n f a t k ≡ refused (refusal 4 n)
 
 pub record Tripled (f a t : List ℕ) (r : Triple) : Type 0 where
   pub is : TripledIn f a t r
@@ -80,7 +81,7 @@ pub record Tripled (f a t : List ℕ) (r : Triple) : Type 0 where
 -- the answer at the end of the lines, with the tables as they are then, is this answer of the definition
 abbrev pub EndsIn : List ℕ → Tables → SheetRead → Answer Sheet → Type 0
 EndsIn s T (whole.Kept c) a = (r : Sheet) × (a ≡ kept r) × StandsFor s T c r
-EndsIn s T (whole.Refused e n) a = a ≡ refused e n
+EndsIn s T (whole.Refused q) a = a ≡ refused q
 
 pub record Ends (s : List ℕ) (T : Tables) (r : SheetRead) (a : Answer Sheet) : Type 0 where
   pub is : EndsIn s T r a

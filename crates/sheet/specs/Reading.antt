@@ -5,6 +5,8 @@ use mathlib.Core.Path.{_≡_}
 use Prim.Native.Nat.{ℕ, zero, suc, _+_, _^_, _≤_, _<_}
 use lib.Dec.{eqb, leb, ltb}
 use lib.ListN.{length}
+use Rattle.refusals.specs.declared.Refusal.{Refusal}
+use Rattle.refusals.specs.Refusal.{refusal}
 use Rattle.fields.specs.declared.Number.{Number}
 use Rattle.fields.specs.declared.Number.the-variants.{Of, Bad}
 use Rattle.fields.specs.Bytes.{sameBytes, isName, isAction, readState}
@@ -27,24 +29,24 @@ pub record State : Type 0 where
 -- "A refusal carries its number and the line it speaks of."
 pub data Answer (A : Type 0) : Type 0 where
   kept : A → Answer A
-  refused : (number line : ℕ) → Answer A
+  refused : Refusal → Answer A
 
 abbrev pub refuseIf : {A : Type 0} → Bool → ℕ → ℕ → Answer A → Answer A
-refuseIf true e n a = refused e n
+refuseIf true e n a = refused (refusal e n)
 refuseIf false e n a = a
 
 -- "4: bad feature name, action or state"
 abbrev pub stated : ℕ → Number → (ℕ → Answer State) → Answer State
-stated n Bad k = refused 4 n
+stated n Bad k = refused (refusal 4 n)
 stated n (Of q) k = k q
 
 -- 5 to 7: the guard's own refusal; the place of the faulty byte plays no part here
 abbrev pub guarded : ℕ → Outcome → (Guard → Answer State) → Answer State
-guarded n (faulty e bs) k = refused e n
+guarded n (faulty e bs) k = refused (refusal e n)
 guarded n (took g rest) k = k g
 
 abbrev pub goOn : Answer State → (State → Answer Sheet) → Answer Sheet
-goOn (refused e n) k = refused e n
+goOn (refused q) k = refused q
 goOn (kept st) k = k st
 
 -- "No feature name, no triple of from, action and to, and no state of a stop line comes twice."
@@ -109,11 +111,11 @@ keep section line s = kept (record { section = section; validLine = line; sheet 
 
 -- "A first line other than `fts`, tab, `1` is 3 at line 1."
 unfoldable pub ftsLine : ℕ → State → One → Answer State
-ftsLine n st notOne = refused 3 n
+ftsLine n st notOne = refused (refusal 3 n)
 ftsLine n st (only x) = refuseIf (not (sameBytes x editionWord)) 3 n (keep 1 (st .validLine) (st .sheet))
 
 unfoldable pub featureLine : ℕ → ℕ → State → One → Answer State
-featureLine n at st notOne = refused 3 n
+featureLine n at st notOne = refused (refusal 3 n)
 featureLine n at st (only x) =
     refuseIf (leb 10 (length (st .sheet .features))) 8 n
     (refuseIf (not (isName x)) 4 n
@@ -124,11 +126,11 @@ abbrev pub guardIn : State → List ℕ → Outcome
 guardIn st x = readWhole (names (st .sheet .features)) x
 
 unfoldable pub validLine : ℕ → State → One → Answer State
-validLine n st notOne = refused 3 n
+validLine n st notOne = refused (refusal 3 n)
 validLine n st (only x) = guarded n (guardIn st x) (λ g. keep 2 n (withValid (st .sheet) g))
 
 unfoldable pub startLine : ℕ → State → One → Answer State
-startLine n st notOne = refused 3 n
+startLine n st notOne = refused (refusal 3 n)
 startLine n st (only x) = stated n (readState x) (λ q. keep 3 (st .validLine) (withStart (st .sheet) q))
 
 -- a move whose states and action are good: its guard by 5 to 7, then 9
@@ -140,7 +142,7 @@ guardedMove n st from action place to g =
     (withMove (st .sheet) (record { line = n; from = from; action = action; place = place; to = to; guard = guard }))))
 
 unfoldable pub moveLine : ℕ → ℕ → State → Four → Answer State
-moveLine n at st notFour = refused 3 n
+moveLine n at st notFour = refused (refusal 3 n)
 moveLine n at st (four f a t g) =
     refuseIf (leb 256 (length (st .sheet .moves))) 8 n
     (stated n (readState f) (λ from.
@@ -149,7 +151,7 @@ moveLine n at st (four f a t g) =
     guardedMove n st from a (at + length f + 1) to g))))
 
 unfoldable pub stopLine : ℕ → State → Two → Answer State
-stopLine n st notTwo = refused 3 n
+stopLine n st notTwo = refused (refusal 3 n)
 stopLine n st (two q g) =
     stated n (readState q) (λ state.
     guarded n (guardIn st g) (λ guard.
@@ -174,11 +176,11 @@ byKind Valid n at st fs = validLine n st (asOne fs)
 byKind Start n at st fs = startLine n st (asOne fs)
 byKind Move n at st fs = moveLine n at st (asFour fs)
 byKind Stop n at st fs = stopLine n st (asTwo fs)
-byKind Misplaced n at st fs = refused 3 n
+byKind Misplaced n at st fs = refused (refusal 3 n)
 
 -- `at` is the number of bytes before the line. No line has one field only.
 abbrev pub byWord : ℕ → ℕ → State → List (List ℕ) → Answer State
-byWord n at st [] = refused 3 n
+byWord n at st [] = refused (refusal 3 n)
 byWord n at st (w ∷ fs) = byKind (kindIn (st .section) w) n (at + length w + 1) st fs
 
 unfoldable pub readLine : ℕ → ℕ → State → List ℕ → Answer State

@@ -103,4 +103,4 @@ blankTables m g t h =
 -- definition's sheet
 abbrev pub ReadsSheet : ℕ → ℕ → ℕ → ℕ → List ℕ → Tables → SheetRead → Type 0
 ReadsSheet m g t h s T (whole.Kept c) = ReadInto s T c × Sized m g t h T
-ReadsSheet m g t h s T (whole.Refused e n) = (readSheet s ≡ refused e n) × (T ≡ blankTables m g t h)
+ReadsSheet m g t h s T (whole.Refused q) = (readSheet s ≡ refused q) × (T ≡ blankTables m g t h)

@@ -7,11 +7,14 @@ ghost use mathlib.Core.Path.{_≡_};
 ghost use mathlib.Core.List.{List};
 ghost use Prim.Native.Nat.{ℕ, _+_, _-_, _*_, _≤_, _<_, min};
 ghost use lib.ListN.{length, getD, replicate};
+ghost use Rattle.refusals.specs.Refusal.{refusal};
 ghost use Rattle.fields.specs.Cutting.{lines};
 ghost use Rattle.sheet.specs.Reading.{State, ended, readLines, nothing};
 ghost use Rattle.sheet.specs.Tables.{tables, blankTables, ReadsSheet};
 ghost use Rattle.sheet.specs.Inside.{Stands, Ends};
 use line::read_line;
+use refusals::Refusal;
+use tables::MOST_BYTES;
 
 // What an accepted sheet counts, and its start.
 pub struct Counts {
@@ -21,10 +24,10 @@ pub struct Counts {
     pub stops: usize,
 }
 
-// The outermost answer: the tables stand for the sheet, or the refusal with its line.
+// The outermost answer: the tables stand for the sheet, or the refusal.
 pub enum SheetRead {
     Kept(Counts),
-    Refused { number: u8, line: usize },
+    Refused(Refusal),
 }
 
 // How far the lines so far have come: the section reached, the number of the `valid` line, and the counts.
@@ -40,7 +43,7 @@ pub struct Progress {
 // A line reader's answer.
 pub enum LineRead {
     Kept(Progress),
-    Refused { number: u8, line: usize },
+    Refused(Refusal),
 }
 
 // Where a line stands in the text, from `at` up to `end`, and its number.
@@ -66,8 +69,6 @@ pub enum LineKind {
     Stop,
     Misplaced,
 }
-
-const MOST_BYTES: usize = 65536;
 
 const LINE_END: u8 = 10;
 
@@ -193,9 +194,9 @@ fn clear_guards(rows: &mut [[u64; 16]])
 }
 
 fn refuse_sheet(number: u8, line: usize) -> SheetRead
-    ensures { λ r. ⌜ r ≡ SheetRead.Refused number line ⌝ }
+    ensures { λ r. ⌜ r ≡ SheetRead.Refused (refusal number line) ⌝ }
 {
-    SheetRead::Refused { number, line }
+    SheetRead::Refused(Refusal { number, line })
 }
 
 // Reads all lines into blank tables; what a refusal leaves in them is not said. `seen` has the marks by
@@ -257,10 +258,10 @@ fn no_lines() -> Progress
 
 // A line's refusal as the sheet's, unchanged.
 fn pass_up(r: LineRead) -> SheetRead
-    ensures { λ a. ⌜ ((e n : ℕ) → r ≡ LineRead.Refused e n → a ≡ SheetRead.Refused e n) ⌝ }
+    ensures { λ a. ⌜ ((q : Refusal) → r ≡ LineRead.Refused q → a ≡ SheetRead.Refused q) ⌝ }
 {
     match r {
-        LineRead::Refused { number, line } => refuse_sheet(number, line),
+        LineRead::Refused(refusal) => SheetRead::Refused(refusal),
         LineRead::Kept(_) => refuse_sheet(0, 0),
     }
 }

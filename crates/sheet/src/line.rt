@@ -6,6 +6,7 @@ ghost use mathlib.Core.List.{List, _∷_};
 ghost use Prim.Native.Nat.{ℕ, _+_, _*_, _≤_, _<_, min};
 ghost use lib.ListN.{length};
 ghost use Rattle.products.specs.Sets.{oneIf};
+ghost use Rattle.refusals.specs.Refusal.{refusal};
 ghost use Rattle.fields.specs.Bytes.{part, sameBytes};
 ghost use Rattle.fields.specs.Cutting.{fields, asOne, asTwo, asFour};
 ghost use Rattle.sheet.specs.Reading.{State, kindIn, ftsLine, featureLine, validLine, startLine, guardedMove, moveLine, stopLine, readLine};
@@ -23,14 +24,12 @@ use fields::Number;
 use fields::TwoFields;
 use guards::GuardRead;
 use products::Found;
+use refusals::Refusal;
+use tables::MOST_FEATURES;
+use tables::MOST_MOVES;
+use tables::MOST_STOPS;
 
 const TAB: u8 = 9;
-
-const MOST_FEATURES: usize = 10;
-
-const MOST_MOVES: usize = 256;
-
-const MOST_STOPS: usize = 64;
 
 // The line at a place, after what c says.
 pub(crate) fn read_line(
@@ -108,14 +107,14 @@ fn line_kind(section: u8, word: &[u8]) -> LineKind
 }
 
 fn refuse(number: u8, line: usize) -> LineRead
-    ensures { λ r. ⌜ r ≡ LineRead.Refused number line ⌝ }
+    ensures { λ r. ⌜ r ≡ LineRead.Refused (refusal number line) ⌝ }
 {
-    LineRead::Refused { number, line }
+    LineRead::Refused(Refusal { number, line })
 }
 
 // A guard's refusal as its line's.
 fn refuse_guard(read: GuardRead, line: usize) -> LineRead
-    ensures { λ r. ⌜ ((e at : ℕ) → read ≡ GuardRead.Refused e at → r ≡ LineRead.Refused e line) ⌝ }
+    ensures { λ r. ⌜ ((e at : ℕ) → read ≡ GuardRead.Refused e at → r ≡ LineRead.Refused (refusal e line)) ⌝ }
 {
     match read {
         GuardRead::Refused { number, at: _ } => refuse(number, line),
@@ -167,6 +166,7 @@ fn read_feature(
     let Found::Nothing = f else {
         return refuse(9, line);
     };
+    // NAME and NAME_END.
     names[k] = [at, at + rest.len()];
     LineRead::Kept(Progress {
         section: 1,
@@ -324,6 +324,7 @@ fn keep_move(
     if is_repeat(text, moves, k, seen, from, action, to) {
         return refuse(9, line);
     }
+    // LINE, FROM, ACTION, ACTION_END, TO and ALWAYS.
     moves[k] = [line, from, place, place + action.len(), to, plain(guard)];
     LineRead::Kept(Progress {
         section: 3,
@@ -369,6 +370,7 @@ fn read_stop(
     if MOST_STOPS <= k {
         return refuse(9, line);
     }
+    // LINE and STATE.
     stops[k] = [line, state];
     stop_guards[k] = set;
     let next = with_stop(c);

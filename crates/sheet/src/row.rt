@@ -8,6 +8,11 @@ ghost use Rattle.sheet.specs.Sheet.{Move, Stop};
 ghost use Rattle.sheet.specs.Reading.{isMove, moved, stopped};
 ghost use Rattle.sheet.specs.Tables.{Rows, MoveRow, StopRow};
 ghost use Rattle.sheet.specs.Inside.{placeOf, Marked, Tells};
+use tables::ACTION;
+use tables::ACTION_END;
+use tables::FROM;
+use tables::STATE;
+use tables::TO;
 
 // Whether one of the first `count` moves has this from, action and to; leaves a mark at their place.
 pub(crate) fn is_repeat(
@@ -57,14 +62,14 @@ fn mix(h: usize, b: u8) -> usize
 fn is_move(text: &[u8], row: [usize; 6], from: usize, action: &[u8], to: usize) -> bool
     ensures { λ r. ⌜ ((m : Move) → MoveRow (now (text .entry)) row m → r ≡ isMove from (now (action .entry)) to m) ⌝ }
 {
-    if from != row[1] {
+    if from != row[FROM] {
         return false;
     }
-    if to != row[4] {
+    if to != row[TO] {
         return false;
     }
-    let a = row[2];
-    let e = row[3];
+    let a = row[ACTION];
+    let e = row[ACTION_END];
     fields::same_bytes(fields::piece(text, a, e), action)
 }
 
@@ -98,7 +103,7 @@ pub(crate) fn has_stop(stops: &[[usize; 2]], count: usize, state: usize) -> bool
     while 0 < i {
         i -= 1;
         let row = stops[i];
-        if state == row[1] {
+        if state == row[STATE] {
             return true;
         }
     }

@@ -8,6 +8,8 @@ ghost use Rattle.products.specs.Sets.{countTo};
 ghost use Rattle.guards.specs.Guard.{print};
 ghost use Rattle.guards.specs.Reading.{namesOf};
 ghost use Rattle.splitting.specs.Splitting.{inSet, guardOf, Within, Tells, Met, Further, Widened};
+use tables::NAME;
+use tables::NAME_END;
 
 // A name of more bytes is not counted with: the sums stay small, and nothing hangs on it but speed.
 const MOST_NAME: usize = 64;
@@ -30,8 +32,8 @@ pub(crate) fn guard_length(
     let mut i = 0;
     while i < n {
         let row = names[i];
-        let from = row[0];
-        let upto = row[1];
+        let from = row[NAME];
+        let upto = row[NAME_END];
         let name = fields::piece(text, from, upto);
         if MOST_NAME < name.len() {
             return 0;

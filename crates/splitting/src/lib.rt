@@ -9,6 +9,8 @@ ghost use Rattle.text.specs.Text.{Wrote};
 ghost use Rattle.guards.specs.Guard.{print};
 ghost use Rattle.guards.specs.Reading.{namesOf};
 ghost use Rattle.splitting.specs.Splitting.{inSet, guardOf, Within, Tells, leafText};
+use tables::NAME;
+use tables::NAME_END;
 
 // Lays the guard of the set's products of the first `count` features; the places of their names in
 // `text` are the rows of `names`. In a full room nothing is laid, and the guard's length is enough.
@@ -60,8 +62,8 @@ fn put_set(
     }
     let given = chosen + (1usize << j);
     let row = names[j];
-    let from = row[0];
-    let upto = row[1];
+    let from = row[NAME];
+    let upto = row[NAME_END];
     let a = text::put(room, at, b'(');
     let b = text::put_bytes(room, a, fields::piece(text, from, upto));
     let c = text::put(room, b, b'?');

@@ -39,7 +39,7 @@ returns c =
     (c .before .before .before .before .before .before .before .before .before .before .before .before .before .before .before .before .before .loop .inv .0)
     (c .before .before .before .before .before .before .before .before .before .before .before .before .before .before .before .before .loop-test .taken)
     (c .before .before .before .before .before .before .before .before .before .before .before .before .before .before .before .find .ensures)
-    (c .before .before .before .before .before .before .before .read-line .ensures) (c .before .enum-told .given .1) (c .pass-up .ensures _ _
+    (c .before .before .before .before .before .before .before .read-line .ensures) (c .before .enum-told .given .1) (c .pass-up .ensures _
     (c .before .enum-told .given .1))
 
 add-at : tie.Need-add-at Inv-loop μ-loop

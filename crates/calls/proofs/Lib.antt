@@ -1,0 +1,4 @@
+pub mod Desk
+pub mod Served
+pub mod Promised
+pub mod Shown

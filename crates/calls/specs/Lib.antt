@@ -1,0 +1,3 @@
+pub mod Promise
+pub mod Shown
+pub mod Inside
