@@ -1,43 +1,59 @@
-// Runs the report or the clean sheet of the sheet on standard input many times over and writes what
-// the last run gave: `bench report 1000` or `bench clean 1000`. Nothing is measured here.
+// Runs the report, the clean sheet or both of the sheet on standard input many times over and writes what
+// the last run gave: `bench report 1000`, `bench clean 1000` or `bench both 1000`. Nothing is measured here.
+use calls::Answers;
 use console::Input;
+use tables::MOST_BYTES;
 
 const MOST_TURNS: usize = 1_000_000_000;
 
+// The call that is run.
+enum Mode {
+    Report,
+    Clean,
+    Both,
+    None,
+}
+
 fn main() {
-    let mut buf = [0u8; 65537];
+    let mut buf = [0u8; MOST_BYTES + 1];
     let input = console::read_input(&mut buf);
     let Input::Whole(n) = input else {
         return;
     };
-    let mut room = [0u8; 65536];
+    let mut room = [0u8; MOST_BYTES];
+    let mut clean_room = [0u8; MOST_BYTES];
     let mut word = [0u8; 16];
     let a = os::arg(1, &mut word);
     let mode = mode_of(&word, a);
     let b = os::arg(2, &mut word);
     let turns = turns_of(&word, b);
-    if mode == 0 {
-        console::tell(b"bench: report or clean, and a number\n");
+    if let Mode::None = mode {
+        console::tell(b"bench: report, clean or both, and a number\n");
         return;
     }
-    run(console::first(&buf, n), &mut room, mode, turns);
+    run(
+        console::first(&buf, n),
+        &mut room,
+        &mut clean_room,
+        mode,
+        turns,
+    );
 }
 
-// 1 for `report`, 2 for `clean`, by the first letter; 0 for anything else.
-fn mode_of(word: &[u8], n: usize) -> usize {
+// By the word's first letter.
+fn mode_of(word: &[u8], n: usize) -> Mode {
     if n == 0 {
-        return 0;
+        return Mode::None;
     }
     if word.len() == 0 {
-        return 0;
+        return Mode::None;
     }
-    if word[0] == b'r' {
-        return 1;
+    match word[0] {
+        b'r' => Mode::Report,
+        b'c' => Mode::Clean,
+        b'b' => Mode::Both,
+        _ => Mode::None,
     }
-    if word[0] == b'c' {
-        return 2;
-    }
-    0
 }
 
 // The number that the first n bytes spell, as far as they are digits.
@@ -65,49 +81,70 @@ fn turns_of(word: &[u8], n: usize) -> usize {
 }
 
 // So many turns, of which the last is shown.
-fn run(text: &[u8], room: &mut [u8], mode: usize, turns: usize) {
+fn run(text: &[u8], room: &mut [u8], clean_room: &mut [u8], mode: Mode, turns: usize) {
     let mut left = turns;
     while 1 < left {
-        turn(text, room, mode);
+        turn(text, room, clean_room, mode);
         left -= 1;
     }
     if left == 0 {
         return;
     }
-    let m = answer(text, room, mode);
-    console::print(console::first(room, m));
+    show(text, room, clean_room, mode);
 }
 
-fn turn(text: &[u8], room: &mut [u8], mode: usize) {
-    if mode == 1 {
-        reporting::report(text, room);
-        return;
+// Nothing but the call.
+fn turn(text: &[u8], room: &mut [u8], clean_room: &mut [u8], mode: Mode) {
+    match mode {
+        Mode::Report => {
+            calls::report(text, room);
+        }
+        Mode::Clean => {
+            calls::clean(text, room);
+        }
+        Mode::Both => {
+            calls::report_and_clean(text, room, clean_room);
+        }
+        Mode::None => {}
     }
-    cleaning::clean(text, room);
 }
 
-// Lays the text into the room, or the line of the refusal; answers how many bytes that is.
-fn answer(text: &[u8], room: &mut [u8], mode: usize) -> usize {
-    if mode == 1 {
-        return answer_report(text, room);
+// The same, with what it gave written: the text, or both texts, or the line of the refusal.
+fn show(text: &[u8], room: &mut [u8], clean_room: &mut [u8], mode: Mode) {
+    match mode {
+        Mode::Report => show_report(text, room),
+        Mode::Clean => show_clean(text, room),
+        Mode::Both => show_both(text, room, clean_room),
+        Mode::None => {}
     }
-    answer_clean(text, room)
 }
 
-fn answer_report(text: &[u8], room: &mut [u8]) -> usize {
-    let r = reporting::report(text, room);
+fn show_report(text: &[u8], room: &mut [u8]) {
+    let a = calls::report(text, room);
+    let n = calls::put_answer(a, room);
+    console::print(console::first(room, n));
+}
+
+fn show_clean(text: &[u8], room: &mut [u8]) {
+    let a = calls::clean(text, room);
+    let n = calls::put_answer(a, room);
+    console::print(console::first(room, n));
+}
+
+fn show_both(text: &[u8], room: &mut [u8], clean_room: &mut [u8]) {
+    let r = calls::report_and_clean(text, room, clean_room);
     match r {
-        reporting::Answer::Done(m) => m,
-        reporting::Answer::Refused { number, line } => {
-            refusals::put_refusal(room, 0, number, line)
+        Answers::Done(n, m) => show_texts(console::first(room, n), console::first(clean_room, m)),
+        Answers::Refused(q) => {
+            let k = refusals::put_refusal(room, 0, q);
+            console::print(console::first(room, k));
         }
     }
 }
 
-fn answer_clean(text: &[u8], room: &mut [u8]) -> usize {
-    let r = cleaning::clean(text, room);
-    match r {
-        cleaning::Answer::Done(m) => m,
-        cleaning::Answer::Refused { number, line } => refusals::put_refusal(room, 0, number, line),
+// Two texts, of which the second is not written where the first could not be.
+fn show_texts(report: &[u8], clean: &[u8]) {
+    if console::print(report) {
+        console::print(clean);
     }
 }

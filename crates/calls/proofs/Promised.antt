@@ -1,6 +1,6 @@
 -- What the calls promise determines their answers and the rooms: reading is a function, and only one text is a call's result. One law serves every call
--- with one room. And the call with two rooms leaves in them what the single calls leave there. Assumes nothing.
-use mathlib.Core.Path.{_≡_, refl, sym, ap, _∙_}
+-- with one room. Assumes nothing.
+use mathlib.Core.Path.{_≡_, sym, ap, _∙_}
 use mathlib.Core.List.{List}
 use mathlib.Core.Logic.{_⊎_, inl, inr}
 use Prim.Native.Nat.{ℕ, _≤_}
@@ -20,7 +20,14 @@ use Rattle.calls.specs.declared.Answers.the-variants as two
 use Rattle.calls.specs.Promise.{Filled, TooLong, Fits, OneText, nothing, ReportPromise, cleanMost, CleanPromise, EitherTooLong, BothPromise}
 use Rattle.calls.proofs.Desk.{one-clean}
 
+-- a text has one sheet
+pub kept-one : (s : List ℕ) {q r : Sheet} → readSheet s ≡ kept q → readSheet s ≡ kept r → q ≡ r
+kept-one s a b = cc
+
 -- ---- one text
+
+pub filled-fits : {Is : List ℕ → Type 0} {most : ℕ} {room x : List ℕ} {m : ℕ} → Filled Is most room x m → Fits Is most
+filled-fits p = record { text = p .text; is = p .is; fits = p .fits }
 
 module _ {Is : List ℕ → Type 0} (one-text : (x y : List ℕ) → Is x → Is y → x ≡ y) {most : ℕ} where
   filled-once : {room x y : List ℕ} {m n : ℕ} → Filled Is most room x m → Filled Is most room y n → (m ≡ n) × (x ≡ y)
@@ -29,14 +36,8 @@ module _ {Is : List ℕ → Type 0} (one-text : (x y : List ℕ) → Is x → Is
       let k : m ≡ n = p .is-length ∙ ap length e ∙ sym (q .is-length) in
       (k, (cc))
 
-  pub filled-fits : {room x : List ℕ} {m : ℕ} → Filled Is most room x m → Fits Is most
-  filled-fits p = record { text = p .text; is = p .is; fits = p .fits }
-
-  pub fits-long : {line : ℕ} {q : Refusal} → Fits Is most → TooLong Is most line q → ⊥
+  fits-long : {line : ℕ} {q : Refusal} → Fits Is most → TooLong Is most line q → ⊥
   fits-long p q = let z = ap length (one-text (p .text) (q .text) (p .is) (q .is)) in omega (arith, p .fits, q .longer)
-
-kept-one : (s : List ℕ) {q r : Sheet} → readSheet s ≡ kept q → readSheet s ≡ kept r → q ≡ r
-kept-one s a b = cc
 
 -- ---- a call with one room: its text is one, what it refuses of a sheet is one refusal, and then there is no text
 module _ (No : Sheet → Refusal → Type 0) (Is : Sheet → List ℕ → Type 0) (most : ℕ) (one-text : (r : Sheet) (x y : List ℕ) → Is r x → Is r y → x ≡ y)
@@ -47,7 +48,7 @@ module _ (No : Sheet → Refusal → Type 0) (Is : Sheet → List ℕ → Type 0
   done-refused : {r : Sheet} {x : List ℕ} {m : ℕ} {q : Refusal} → readSheet s ≡ kept r → Filled (Is r) most room x m → Refuses q → ⊥
   done-refused a p (inl e) = kept-refused s a e
   done-refused a p (inr (r, b, inl z)) = apart _ _ _ (rw (kept-one s b a) at z) (p .is)
-  done-refused a p (inr (r, b, inr z)) = fits-long (one-text _) (filled-fits (one-text _) p) (rw (kept-one s b a) at z)
+  done-refused a p (inr (r, b, inr z)) = fits-long (one-text _) (filled-fits p) (rw (kept-one s b a) at z)
 
   refused-one : {r : Sheet} {p q : Refusal} → No r p ⊎ TooLong (Is r) most 0 p → No r q ⊎ TooLong (Is r) most 0 q → p ≡ q
   refused-one (inl x) (inl y) = one-no _ _ _ x y
@@ -89,7 +90,7 @@ module _ (s room clean : List ℕ) where
   both-refused : {r : Sheet} {x y : List ℕ} {m k : ℕ} {q : Refusal} → readSheet s ≡ kept r → Filled (IsReport _≤_ r) (length room) room x m
       → Filled (IsClean r) (cleanMost clean) clean y k → RefusesBoth q → ⊥
   both-refused a p c (inl e) = kept-refused s a e
-  both-refused a p c (inr (r, b, z)) = either-fits (filled-fits report-determined p) (filled-fits one-clean c) (rw (kept-one s b a) at z)
+  both-refused a p c (inr (r, b, z)) = either-fits (filled-fits p) (filled-fits c) (rw (kept-one s b a) at z)
 
   either-one : {r : Sheet} {p q : Refusal} → EitherTooLong r room clean p → EitherTooLong r room clean q → p ≡ q
   either-one (inl x) (inl y) = x .eleven ∙ sym (y .eleven)
@@ -111,8 +112,3 @@ module _ (s room clean : List ℕ) where
   both-promise-determined x y u v (two.Done m k) (two.Refused q) (r, a, p, c) z = absurd (both-refused a p c (z .2))
   both-promise-determined x y u v (two.Refused q) (two.Done n j) z (r, a, p, c) = absurd (both-refused a p c (z .2))
   both-promise-determined x y u v (two.Refused p) (two.Refused q) z w = (ap two.Refused (both-refused-once (z .2) (w .2)), z .0 ∙ sym (w .0), z .1 ∙ sym (w .1))
-
-  -- "Both texts equal those of the single calls": where both single calls are done, so is this one, with their lengths and their rooms
-  pub both-as-single : (x y u v : List ℕ) (m k : ℕ) (a : Answers) → ReportPromise s room x (one.Done m) → CleanPromise s clean u (one.Done k) → BothPromise s room y clean v a
-      → (a ≡ two.Done m k) × (y ≡ x) × (v ≡ u)
-  both-as-single x y u v m k a (r, b, p) (q, d, c) z = both-promise-determined y x v u a (two.Done m k) z (r, b, p, (rw (kept-one s d b) at c))

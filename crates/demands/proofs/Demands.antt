@@ -1,19 +1,20 @@
 -- The demands proved, in the order of specs/Demands; what a refusal can be stands in Refusals, that report and clean sheet exist in Exists. Assumes
 -- nothing.
-use mathlib.Core.Path.{_≡_, sym, ap, subst, _∙_}
+use mathlib.Core.Path.{_≡_, refl, sym, ap, subst, _∙_}
 use mathlib.Core.List.{List, _++_}
-use mathlib.Core.Logic.{_⊎_, inl, inr}
-use Prim.Native.Nat.{ℕ, _≤_, _<_}
+use mathlib.Core.Logic.{inl, inr}
+use Prim.Native.Nat.{ℕ, _≤_}
 use native.Mathlib.Omega.{arith}
 use lib.ListN.{length, take, drop}
 use lib.Seq.{take-append-seam}
+use Rattle.refusals.specs.declared.Refusal.{Refusal}
+use Rattle.refusals.specs.Refusal.{refusal}
 use Rattle.sheet.specs.Sheet.{Sheet}
 use Rattle.sheet.specs.Reading.{kept, readSheet}
 use Rattle.sheet.proofs.Accepted.{accepted, kept-refused}
 use Rattle.sheet.proofs.ReadBack.{alike-names, alike-back}
 use Rattle.family.proofs.Meaning.{depth-small}
 use Rattle.reporting.specs.Report.{IsReport}
-use Rattle.reporting.proofs.Promised.{report-promise-determined}
 use Rattle.normal.specs.Behaviour.{Same}
 use Rattle.normal.specs.Clean.{IsClean}
 use Rattle.normal.specs.Faults.{Faultless}
@@ -23,18 +24,50 @@ use Rattle.normal.proofs.Unique.{is-clean-unique}
 use Rattle.normal.proofs.Kept.{clean-same, clean-again, text-same}
 use Rattle.normal.proofs.Accepted.{clean-read}
 use Rattle.normal.proofs.Faultless.{faultless}
-use Rattle.cleaning.specs.declared.Answer.the-variants as cleaned
-use Rattle.cleaning.specs.Promise.{CleanPromise}
-use Rattle.cleaning.proofs.Promised.{clean-promise-determined}
-use Rattle.demands.specs.Demands.{ReportDetermined, CleanDetermined, Verdicts, DepthIsSmall, CleanKeepsTheMoves, CleanedKeepsTheMoves, CleanIsANormalForm, CleanIsClean, TwoRuns, CleanAgainSame, CleanReported}
+use Rattle.calls.specs.declared.Answer.the-variants as one
+use Rattle.calls.specs.declared.Answers.{Answers}
+use Rattle.calls.specs.declared.Answers.the-variants as two
+use Rattle.calls.specs.Promise.{TooLong, ReportPromise, CleanPromise, BothPromise}
+use Rattle.calls.proofs.Promised.{kept-one, filled-fits, report-promise-determined, clean-promise-determined, both-promise-determined}
+use Rattle.demands.specs.Demands.{Determined, BothDetermined, BothAsSingle, Verdicts, DepthIsSmall, CleanKeepsTheMoves, CleanedKeepsTheMoves, CleanIsANormalForm, CleanIsClean, TwoRuns, CleanAgainSame, CleanReported}
 
 -- ---- demand 1
 
-pub report-determined : ReportDetermined
+pub report-determined : Determined ReportPromise
 report-determined = report-promise-determined
 
-pub clean-determined : CleanDetermined
+pub clean-determined : Determined CleanPromise
 clean-determined = clean-promise-determined
+
+pub both-determined : BothDetermined
+both-determined = both-promise-determined
+
+-- a text that is too long for one call is so for another, with the line that this one gives to 11
+too-long-at : (line : ℕ) {Is : List ℕ → Type 0} {most old : ℕ} {q : Refusal} → TooLong Is most old q → TooLong Is most line (refusal 11 line)
+too-long-at line l = record { eleven = refl; text = l .text; is = l .is; longer = l .longer }
+
+-- what the single calls leave meets the promise of the call with two rooms, and only one answer with its rooms does
+pub both-as-single : BothAsSingle
+both-as-single s room x y clean u v c h = (done, no-report, no-clean)
+  where
+    only : (x u : List ℕ) (a : Answers) → BothPromise s room x clean u a → (c ≡ a) × (y ≡ x) × (v ≡ u)
+    only x u a k = both-determined s room clean y x v u c a h k
+
+    done : (m n : ℕ) → ReportPromise s room x (one.Done m) → CleanPromise s clean u (one.Done n) → (c ≡ two.Done m n) × (y ≡ x) × (v ≡ u)
+    done m n (r, e, p) (q, f, k) = only x u (two.Done m n) (r, e, p, (rw (kept-one s f e) at k))
+
+    no-report : (r : Sheet) (q : Refusal) → readSheet s ≡ kept r → ReportPromise s room x (one.Refused q)
+        → (c ≡ two.Refused (refusal 11 1)) × (y ≡ room) × (v ≡ clean)
+    no-report r q e (k, inl f) = absurd (kept-refused s e f)
+    no-report r q e (k, inr (t, f, inl z)) = absurd z
+    no-report r q e (k, inr (t, f, inr l)) = only room clean (two.Refused (refusal 11 1)) (refl, refl, inr (t, f, inl (too-long-at 1 l)))
+
+    no-clean : (m : ℕ) (q : Refusal) → ReportPromise s room x (one.Done m) → CleanPromise s clean u (one.Refused q)
+        → (c ≡ two.Refused (refusal 11 2)) × (y ≡ room) × (v ≡ clean)
+    no-clean m q (r, e, p) (k, inl f) = absurd (kept-refused s e f)
+    no-clean m q (r, e, p) (k, inr (t, f, inl z)) = absurd z
+    no-clean m q (r, e, p) (k, inr (t, f, inr l)) =
+        only room clean (two.Refused (refusal 11 2)) (refl, refl, inr (t, f, inr (filled-fits (rw (kept-one s e f) at p), too-long-at 2 l)))
 
 -- ---- demand 2
 
@@ -43,9 +76,9 @@ first : (text rest : List ℕ) {n : ℕ} {x : List ℕ} → n ≡ length text �
 first text rest {n} e l = ap (take n) l ∙ ap (λ (k : ℕ). take k (text ++ rest)) e ∙ take-append-seam text rest
 
 pub verdicts : Verdicts
-verdicts s room x n h =
+verdicts s room x n (r, k, h) =
     let e = first (h .text) (drop n room) (h .is-length) (h .laid) in
-    (h .sheet, h .accepted, accepted s (h .accepted), subst (IsReport _≤_ (h .sheet)) (sym e) (h .report))
+    (r, k, accepted s k, subst (IsReport _≤_ r) (sym e) (h .is))
 
 pub depth-is-small : DepthIsSmall
 depth-is-small s r d e h = depth-small (accepted s e) h
@@ -56,11 +89,11 @@ clean-keeps-the-moves s x r e i short =
     (z .0, ap readSheet (i .is) ∙ z .1, alike-names (z .2) ∙ i .clean .features, same-trans (clean-same (i .clean)) (same-alike (alike-back (z .2))))
 
 -- where `clean` is done with n, the first n bytes of the room are the clean sheet of an accepted sheet
-cleaned-sheet : (s room x : List ℕ) (n : ℕ) → CleanPromise s room x (cleaned.Done n)
+cleaned-sheet : (s room x : List ℕ) (n : ℕ) → CleanPromise s room x (one.Done n)
     → (r : Sheet) × (readSheet s ≡ kept r) × IsClean r (take n x) × (length (take n x) ≤ 65536) × (n ≡ length (take n x))
-cleaned-sheet s room x n h =
+cleaned-sheet s room x n (r, k, h) =
     let e = first (h .text) (drop n room) (h .is-length) (h .laid) in
-    (h .sheet, h .accepted, subst (IsClean (h .sheet)) (sym e) (h .clean), rw e (h .short), h .is-length ∙ ap length (sym e))
+    (r, k, subst (IsClean r) (sym e) (h .is), rw e (omega (arith, h .fits)), h .is-length ∙ ap length (sym e))
 
 pub cleaned-keeps-the-moves : CleanedKeepsTheMoves
 cleaned-keeps-the-moves s room x n h =
@@ -88,16 +121,9 @@ clean-is-clean s x r e i short =
     (z .0, ap readSheet (i .is) ∙ z .1, faultless (clean-alike back (i .clean)), own, λ y j. is-clean-unique j own)
 
 -- what `clean` laid, read again
-own : (s u x : List ℕ) (m : ℕ) → CleanPromise s u x (cleaned.Done m)
+own : (s u x : List ℕ) (m : ℕ) → CleanPromise s u x (one.Done m)
     → (c : Sheet) × (readSheet (take m x) ≡ kept c) × Faultless c × IsClean c (take m x) × ((y : List ℕ) → IsClean c y → y ≡ take m x)
 own s u x m h = let a = cleaned-sheet s u x m h in clean-is-clean s (take m x) (a .0) (a .1) (a .2) (a .3)
-
-kept-one : (s : List ℕ) {q r : Sheet} → readSheet s ≡ kept q → readSheet s ≡ kept r → q ≡ r
-kept-one s a b = cc
-
-not-longer : {k m l : ℕ} → (65536 < k) ⊎ (l < k) → k ≡ m → m ≤ 65536 → m ≤ l → ⊥
-not-longer (inl a) e h g = omega arith
-not-longer (inr a) e h g = omega arith
 
 pub two-runs : TwoRuns
 two-runs s t u v x y m n r q h k e f same =
@@ -108,21 +134,20 @@ two-runs s t u v x y m n r q h k e f same =
     clean-is-a-normal-form s t (take m x) (take n y) r q e f same (rw (sym c) (a .2)) (rw (sym d) (b .2)) (a .3) (b .3)
 
 pub clean-again-same : CleanAgainSame
-clean-again-same s u x v y m (cleaned.Done n) h k fits =
+clean-again-same s u x v y m (one.Done n) h k fits =
     let z = own s u x m h in
     let b = cleaned-sheet (take m x) v y n k in
     let c : b .0 ≡ z .0 = cc in
     let t : take n y ≡ take m x = z .4 (take n y) (rw (sym c) (b .2)) in
     let e : n ≡ m = b .4 ∙ ap length t ∙ sym (cleaned-sheet s u x m h .4) in
-    (ap cleaned.Done e, ap (λ (k : ℕ). take k y) (sym e) ∙ t)
-clean-again-same s u x v y m (cleaned.Refused e n) h (k, inl q) fits = let z = own s u x m h in absurd (kept-refused (take m x) (z .1) q)
-clean-again-same s u x v y m (cleaned.Refused e n) h (k, inr q) fits =
+    (ap one.Done e, ap (λ (k : ℕ). take k y) (sym e) ∙ t)
+clean-again-same s u x v y m (one.Refused q) h (k, inl e) fits = let z = own s u x m h in absurd (kept-refused (take m x) (z .1) e)
+clean-again-same s u x v y m (one.Refused q) h (k, inr (r, e, inl z)) fits = absurd z
+clean-again-same s u x v y m (one.Refused q) h (k, inr (r, e, inr l)) fits =
     let z = own s u x m h in
     let b = cleaned-sheet s u x m h in
-    let c : q .sheet ≡ z .0 = kept-one (take m x) (q .accepted) (z .1) in
-    let t : q .text ≡ take m x = z .4 (q .text) (rw (sym c) (q .clean)) in
-    let l : length (q .text) ≡ m = ap length t ∙ sym (b .4) in
-    absurd (not-longer (q .longer) l (rw (b .4) (b .3)) fits)
+    let t : l .text ≡ take m x = z .4 (l .text) (rw (kept-one (take m x) (z .1) e) (l .is)) in
+    absurd (omega (arith, l .longer, ap length t, b .3, b .4, fits))
 
 pub clean-reported : CleanReported
 clean-reported s u x v y m n h k =

@@ -1,7 +1,7 @@
 -- The worked example of document 01, "One sheet in full": what is true of its sheet, by hand. Products 1, 2 and 3 are valid; in each of them
 -- states 0, 1 and 2 are reached, by as many moves at least, and no other state, since the guard of `level` never holds. Assumes nothing.
 use mathlib.Core.Bool.{true}
-use mathlib.Core.List.{[], _∷_, List·Memᴰ, List·Memᴰ·head, List·Memᴰ·tail, List·Memᴰ·not-nil}
+use mathlib.Core.List.{List·Memᴰ, List·Memᴰ·head, List·Memᴰ·tail, List·Memᴰ·not-nil}
 use mathlib.Core.Path.{_≡_, refl}
 use Prim.Native.Nat.{ℕ, zero, suc, _≤_, _<_}
 use native.Mathlib.Omega.{arith}

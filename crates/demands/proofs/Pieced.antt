@@ -1,7 +1,7 @@
 -- "A way pieced together from several products. With feature a, all valid, 0 to 1 under `a` and 1 to 2 under `!a`: the second move is dead (made `-`,
 -- missed 1)." A product that gets beyond state 0 has the feature a, and the second move wants that it has not. Assumes nothing.
 use mathlib.Core.Bool.{Bool, true, false, not}
-use mathlib.Core.List.{[], _∷_, List·Memᴰ·head, List·Memᴰ·tail}
+use mathlib.Core.List.{List·Memᴰ·head, List·Memᴰ·tail}
 use mathlib.Core.Path.{_≡_, refl}
 use Prim.Native.Nat.{ℕ, zero, suc, _≤_, _<_}
 use native.Mathlib.Omega.{arith}

@@ -1,7 +1,8 @@
--- What a refusal of `report` and `clean` can be: the table's numbers, each given to a sheet of a few lines; and that an input's first 65,537 bytes are
--- enough. Both promises speak of the text by `readSheet` alone, so each statement is one of `readSheet`. Assumes nothing.
+-- What a refusal of a call can be: the table's numbers, each given to a sheet of a few lines, and never the row "0, done, 0"; and that an input's first
+-- 65,537 bytes are enough. A promise speaks of the text by `readSheet` alone, so each statement is one of `readSheet`; what holds for both calls with
+-- one room is proved once, for any text that a call may lay. Assumes nothing.
 use mathlib.Core.List.{List, [], _∷_, _++_}
-use mathlib.Core.Logic.{_⊎_, inl, inr, ⊎-elim, _↔_}
+use mathlib.Core.Logic.{inl, inr, ⊎-elim}
 use mathlib.Core.Path.{_≡_, refl, sym, ap, _∙_}
 use Prim.Native.Nat.{ℕ, zero, suc, _-_, _≤_, _<_}
 use native.Mathlib.Nat.{eq-zero-or-pos}
@@ -12,40 +13,115 @@ use Rattle.fields.specs.Bytes.{sameBytes, allNameBytes, isName, isAction, readS
 use Rattle.fields.specs.Cutting.{cut, join, close}
 use Rattle.guards.specs.Guard.{holds}
 use Rattle.guards.specs.Reading.{number, parts, readGuard, readWhole}
+use Rattle.refusals.specs.declared.Refusal.{Refusal}
+use Rattle.refusals.specs.Refusal.{refusal}
 use Rattle.sheet.specs.Sheet.{Sheet, names}
 use Rattle.sheet.specs.Spelling.{joined, textOf}
-use Rattle.sheet.specs.Reading.{refused, ftsLine, featureLine, validLine, startLine, readLine, ended, readLines, last, readSheet}
+use Rattle.sheet.specs.Reading.{kept, refused, ftsLine, featureLine, validLine, startLine, readLine, ended, readLines, last, readSheet}
 use Rattle.sheet.specs.Reading as reading
 use Rattle.sheet.proofs.Accepted.{refused-number, kept-refused}
 use Rattle.sheet.proofs.Whole.{read-long, read-empty}
-use Rattle.reporting.specs.declared.Answer as report
-use Rattle.reporting.specs.declared.Answer.the-variants as reported
 use Rattle.reporting.specs.Report.{depthRow, IsReport}
-use Rattle.reporting.specs.Promise.{ReportPromise}
 use Rattle.normal.specs.Clean.{IsClean}
-use Rattle.cleaning.specs.declared.Answer as clean
-use Rattle.cleaning.specs.declared.Answer.the-variants as cleaned
-use Rattle.cleaning.specs.Promise.{CleanPromise}
+use Rattle.calls.specs.declared.Answer.{Answer}
+use Rattle.calls.specs.declared.Answer.the-variants as one
+use Rattle.calls.specs.declared.Answers.the-variants as two
+use Rattle.calls.specs.Promise.{TooLong, OneText, nothing, ReportPromise, cleanMost, CleanPromise, BothPromise}
 use Rattle.demands.specs.Printed.{onto, printed}
-use Rattle.demands.specs.Demands.{ReportRefusals, CleanRefusals, RefusalsGiven, ElevenGiven, ReportCut, CleanCut}
-use Rattle.demands.proofs.Demands.{report-determined, clean-determined}
+use Rattle.demands.specs.Demands.{Refusals, BothRefusals, Told, BothTold, TableRefuses, RefusalsGiven, ElevenGiven, Cut}
+use Rattle.demands.proofs.Demands.{report-determined, clean-determined, both-determined}
 
 -- ---- the numbers
 
-number-small : (s : List ℕ) {e n : ℕ} {B : Type 0} → (B → e ≡ 11) → (readSheet s ≡ refused e n) ⊎ B → (1 ≤ e) × (e ≤ 11)
-number-small s f (inl q) = let z = refused-number s q in (z .0, omega (arith, z .1))
-number-small s f (inr q) = let z = f q in (omega arith, omega arith)
+-- the number is one of the table's
+abbrev Numbered : Refusal → Type 0
+Numbered q = (1 ≤ q .number) × (q .number ≤ 11)
 
-pub report-refusals : ReportRefusals
-report-refusals s room x e n h = number-small s (λ q. q .number) (h .1)
+read-numbered : (s : List ℕ) {q : Refusal} → readSheet s ≡ refused q → Numbered q
+read-numbered s e = let z = refused-number s e in (z .0, omega (arith, z .1))
 
-pub clean-refusals : CleanRefusals
-clean-refusals s room x e n h = number-small s (λ q. q .number) (h .1)
+long-numbered : {Is : List ℕ → Type 0} {most line : ℕ} {q : Refusal} → TooLong Is most line q → Numbered q
+long-numbered l = let e = ap (λ (q : Refusal). q .number) (l .eleven) in (omega arith, omega arith)
+
+-- such a refusal is no row of a call that is done
+not-done : {q : Refusal} → Numbered q → q ≡ refusal 0 0 → ⊥
+not-done n e = let z = ap (λ (q : Refusal). q .number) e in omega (arith, n .0)
+
+-- ---- a longer input
+
+cut-same : (s : List ℕ) → readSheet (take 65537 s) ≡ readSheet s
+cut-same s =
+    ⊎-elim (λ (z : length s - 65537 ≡ 0). ap readSheet (take-all 65537 s (omega arith)))
+    (λ l. read-long (take 65537 s) (omega (arith, length-take 65537 s)) ∙ sym (read-long s (omega arith))) (eq-zero-or-pos (length s - 65537))
+
+-- ---- a call with one room: `Is` says which text it lays, and `most` how long that may be in a room; an accepted sheet it refuses by 11 only
+module _ (Is : Sheet → List ℕ → Type 0) (most : List ℕ → ℕ) where
+  abbrev Call : List ℕ → List ℕ → List ℕ → Answer → Type 0
+  Call s room x a = OneText nothing Is (most room) s room x a
+
+  one-refusals : Refusals Call
+  one-refusals s room x q (k, inl e) = read-numbered s e
+  one-refusals s room x q (k, inr (r, e, inl z)) = absurd z
+  one-refusals s room x q (k, inr (r, e, inr l)) = long-numbered l
+
+  one-told : Told Call
+  one-told s room x t other y (one.Done m) (one.Done n) h k row e = ap one.Done e
+  one-told s room x t other y (one.Done m) (one.Refused q) h k row e = absurd (not-done (one-refusals t other y q k) (sym row))
+  one-told s room x t other y (one.Refused p) (one.Done n) h k row e = absurd (not-done (one-refusals s room x p h) row)
+  one-told s room x t other y (one.Refused p) (one.Refused q) h k row e = ap one.Refused row
+
+  -- in a room without a byte every text is too long
+  one-eleven : ((r : Sheet) (x : List ℕ) → Is r x → most [] < length x) → (s x : List ℕ) (r : Sheet) → readSheet s ≡ kept r
+      → (a : Answer) → Call s [] x a → a ≡ one.Refused (refusal 11 0)
+  one-eleven long s x r e (one.Done n) (t, f, h) = absurd (omega (arith, long t (h .text) (h .is), h .fits))
+  one-eleven long s x r e (one.Refused q) (k, inl f) = absurd (kept-refused s e f)
+  one-eleven long s x r e (one.Refused q) (k, inr (t, f, inl z)) = absurd z
+  one-eleven long s x r e (one.Refused q) (k, inr (t, f, inr l)) = ap one.Refused (l .eleven)
+
+  -- one sheet's promise is another's, where both read alike
+  one-as : (s t : List ℕ) → readSheet s ≡ readSheet t → (room x : List ℕ) (a : Answer) → Call s room x a → Call t room x a
+  one-as s t e room x (one.Done n) (r, f, h) = (r, sym e ∙ f, h)
+  one-as s t e room x (one.Refused q) (k, inl f) = (k, inl (sym e ∙ f))
+  one-as s t e room x (one.Refused q) (k, inr (r, f, h)) = (k, inr (r, sym e ∙ f, h))
+
+  one-cut : Cut Call
+  one-cut s room x a = (one-as (take 65537 s) s (cut-same s) room x a, one-as s (take 65537 s) (sym (cut-same s)) room x a)
+
+pub report-refusals : Refusals ReportPromise
+report-refusals = one-refusals (IsReport _≤_) length
+
+pub clean-refusals : Refusals CleanPromise
+clean-refusals = one-refusals IsClean cleanMost
+
+pub report-told : Told ReportPromise
+report-told = one-told (IsReport _≤_) length
+
+pub clean-told : Told CleanPromise
+clean-told = one-told IsClean cleanMost
+
+pub report-cut : Cut ReportPromise
+report-cut = one-cut (IsReport _≤_) length
+
+pub clean-cut : Cut CleanPromise
+clean-cut = one-cut IsClean cleanMost
+
+-- ---- the call with two rooms
+
+pub both-refusals : BothRefusals
+both-refusals s room x clean u q (k, j, inl e) = read-numbered s e
+both-refusals s room x clean u q (k, j, inr (r, e, inl l)) = long-numbered l
+both-refusals s room x clean u q (k, j, inr (r, e, inr (f, l))) = long-numbered l
+
+pub both-told : BothTold
+both-told s room x clean u t other y second v (two.Done m n) (two.Done i j) h k row e = ap (λ (z : ℕ × ℕ). two.Done (z .0) (z .1)) e
+both-told s room x clean u t other y second v (two.Done m n) (two.Refused q) h k row e = absurd (not-done (both-refusals t other y second v q k) (sym row))
+both-told s room x clean u t other y second v (two.Refused p) (two.Done i j) h k row e = absurd (not-done (both-refusals s room x clean u p h) row)
+both-told s room x clean u t other y second v (two.Refused p) (two.Refused q) h k row e = ap two.Refused row
 
 -- ---- a sheet for each
 
 abbrev Given : ℕ → Type 0
-Given e = (s : List ℕ) × (n : ℕ) × (readSheet s ≡ refused e n)
+Given e = (s : List ℕ) × (n : ℕ) × (readSheet s ≡ refused (refusal e n))
 
 long-given : Given 1
 long-given = (replicate 65537 0, 0, read-long (replicate 65537 0) (omega (arith, length-replicate {A = ℕ} 65537 0)))
@@ -84,14 +160,14 @@ given (suc (suc (suc (suc (suc (suc (suc (suc (suc (suc zero)))))))))) l h = lin
 given (suc (suc (suc (suc (suc (suc (suc (suc (suc (suc (suc e))))))))))) l h = absurd (omega arith)
 
 pub refusals-given : RefusalsGiven
-refusals-given e l h =
-    let (s, n, q) = given e l h in (
-      s,
-      n,
-      q,
-      λ room x a k. report-determined s room x room a (reported.Refused e n) k (refl, inl q),
-      λ room x a k. clean-determined s room x room a (cleaned.Refused e n) k (refl, inl q),
-    )
+refusals-given e l h = let (s, n, f) = given e l h in (s, refusal e n, refl, f)
+
+pub table-refuses : TableRefuses
+table-refuses s q f = (
+  λ room x a k. report-determined s room x room a (one.Refused q) k (refl, inl f),
+  λ room x a k. clean-determined s room x room a (one.Refused q) k (refl, inl f),
+  λ room x clean u a k. both-determined s room clean x room u clean a (two.Refused q) k (refl, refl, inl f),
+)
 
 -- ---- 11, in a room without a byte: neither text is empty
 
@@ -108,52 +184,15 @@ clean-long : {r : Sheet} {x : List ℕ} → IsClean r x → 0 < length x
 unfolding textOf joined join close
 clean-long i = let e = ap length (i .is) in omega arith
 
+both-eleven : (s x clean u : List ℕ) (r : Sheet) → readSheet s ≡ kept r → (a : Answers) → BothPromise s [] x clean u a → a ≡ two.Refused (refusal 11 1)
+both-eleven s x clean u r e (two.Done m n) (t, f, h, k) = absurd (omega (arith, report-long (h .is), h .fits))
+both-eleven s x clean u r e (two.Refused q) (k, j, inl f) = absurd (kept-refused s e f)
+both-eleven s x clean u r e (two.Refused q) (k, j, inr (t, f, inl l)) = ap two.Refused (l .eleven)
+both-eleven s x clean u r e (two.Refused q) (k, j, inr (t, f, inr (h, l))) = absurd (omega (arith, report-long (h .is), h .fits))
+
 pub eleven-given : ElevenGiven
-eleven-given s x r e = (λ a h. reports a h, λ a h. cleans a h)
-  where
-    reports : (a : report.Answer) → ReportPromise s [] x a → a ≡ reported.Refused 11 0
-    reports (reported.Done n) h = let l = report-long (h .report) in let k = h .fits in absurd (omega arith)
-    reports (reported.Refused d n) (k, inl q) = absurd (kept-refused s e q)
-    reports (reported.Refused d n) (k, inr q) = rw (q .number, q .line)
-
-    cleans : (a : clean.Answer) → CleanPromise s [] x a → a ≡ cleaned.Refused 11 0
-    cleans (cleaned.Done n) h = let l = clean-long (h .clean) in let k = h .fits in absurd (omega arith)
-    cleans (cleaned.Refused d n) (k, inl q) = absurd (kept-refused s e q)
-    cleans (cleaned.Refused d n) (k, inr q) = rw (q .number, q .line)
-
--- ---- a longer input
-
-cut-same : (s : List ℕ) → readSheet (take 65537 s) ≡ readSheet s
-cut-same s =
-    ⊎-elim (λ (z : length s - 65537 ≡ 0). ap readSheet (take-all 65537 s (omega arith)))
-    (λ l. read-long (take 65537 s) (omega (arith, length-take 65537 s)) ∙ sym (read-long s (omega arith))) (eq-zero-or-pos (length s - 65537))
-
--- one text's promise is another's, where both read alike
-report-as : (s t : List ℕ) → readSheet s ≡ readSheet t → (room x : List ℕ) (a : report.Answer) → ReportPromise s room x a → ReportPromise t room x a
-report-as s t e room x (reported.Done n) h =
-    record { sheet = h .sheet; accepted = sym e ∙ h .accepted; text = h .text; report = h .report; fits = h .fits; is-length = h .is-length; laid = h .laid }
-report-as s t e room x (reported.Refused d n) (k, inl q) = (k, inl (sym e ∙ q))
-report-as s t e room x (reported.Refused d n) (k, inr q) =
-    (k, inr (record { number = q .number; line = q .line; sheet = q .sheet; accepted = sym e ∙ q .accepted; text = q .text; report = q .report; longer = q .longer }))
-
-clean-as : (s t : List ℕ) → readSheet s ≡ readSheet t → (room x : List ℕ) (a : clean.Answer) → CleanPromise s room x a → CleanPromise t room x a
-clean-as s t e room x (cleaned.Done n) h =
-    record {
-      sheet = h .sheet;
-      accepted = sym e ∙ h .accepted;
-      text = h .text;
-      clean = h .clean;
-      short = h .short;
-      fits = h .fits;
-      is-length = h .is-length;
-      laid = h .laid;
-    }
-clean-as s t e room x (cleaned.Refused d n) (k, inl q) = (k, inl (sym e ∙ q))
-clean-as s t e room x (cleaned.Refused d n) (k, inr q) =
-    (k, inr (record { number = q .number; line = q .line; sheet = q .sheet; accepted = sym e ∙ q .accepted; text = q .text; clean = q .clean; longer = q .longer }))
-
-pub report-cut : ReportCut
-report-cut s room x a = (report-as (take 65537 s) s (cut-same s) room x a, report-as s (take 65537 s) (sym (cut-same s)) room x a)
-
-pub clean-cut : CleanCut
-clean-cut s room x a = (clean-as (take 65537 s) s (cut-same s) room x a, clean-as s (take 65537 s) (sym (cut-same s)) room x a)
+eleven-given s x clean u r e = (
+  one-eleven (IsReport _≤_) length (λ r y i. report-long i) s x r e,
+  one-eleven IsClean cleanMost (λ r y i. clean-long i) s x r e,
+  both-eleven s x clean u r e,
+)

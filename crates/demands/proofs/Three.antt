@@ -1,5 +1,5 @@
 -- The sheet of three lines, `fts 1`, `valid 1`, `start 0`: one product, one state, no move. Assumes nothing.
-use mathlib.Core.List.{[], _∷_, List·Memᴰ·not-nil}
+use mathlib.Core.List.{List·Memᴰ·not-nil}
 use mathlib.Core.Path.{_≡_, refl}
 use Prim.Native.Nat.{ℕ, _≤_, _<_}
 use native.Mathlib.Omega.{arith}

@@ -23,8 +23,8 @@ use Rattle.calls.specs.declared.Answers.the-variants as two
 use Rattle.calls.specs.Promise.{ReportPromise, CleanPromise, BothPromise}
 use Rattle.calls.specs.Shown.{rowOf, lengthOf, rowOfBoth, lengthsOf}
 
--- ---- demand 1: any bytes, any room: the work or a refusal from the table. Each statement is said once for a call with one room, which promises P of
--- the sheet, the room before, the room after and the answer; P is ReportPromise or CleanPromise.
+-- ---- demand 1: any bytes, any room: the work or a refusal from the table. What is so of both calls with one room is said once, of a call that promises
+-- P of the sheet, the room before, the room after and the answer; P is ReportPromise or CleanPromise.
 
 -- report-determined, clean-determined: any two answers with final rooms that meet the promise for one sheet and one room are equal.
 abbrev pub Determined : (List ℕ → List ℕ → List ℕ → Answer → Type 0) → Type 0
@@ -42,41 +42,44 @@ Refusals P = (s room x : List ℕ) (q : Refusal) → P s room x (one.Refused q) 
 abbrev pub BothRefusals : Type 0
 BothRefusals = (s room x clean u : List ℕ) (q : Refusal) → BothPromise s room x clean u (two.Refused q) → (1 ≤ q .number) × (q .number ≤ 11)
 
--- report-told, clean-told, both-told: the row of the table, "0, done, 0" or the refusal's, and the length tell the answer.
+-- report-told, clean-told, both-told: the row of the table, "0, done, 0" or the refusal's, and the length, or both lengths, tell the answer.
 abbrev pub Told : (List ℕ → List ℕ → List ℕ → Answer → Type 0) → Type 0
-Told P = (s room x t desk y : List ℕ) (a b : Answer) → P s room x a → P t desk y b → rowOf a ≡ rowOf b → lengthOf a ≡ lengthOf b → a ≡ b
+Told P = (s room x t other y : List ℕ) (a b : Answer) → P s room x a → P t other y b → rowOf a ≡ rowOf b → lengthOf a ≡ lengthOf b → a ≡ b
 
 abbrev pub BothTold : Type 0
 BothTold =
-    (s room x clean u t desk y tidy v : List ℕ) (a b : Answers) → BothPromise s room x clean u a → BothPromise t desk y tidy v b
+    (s room x clean u t other y second v : List ℕ) (a b : Answers) → BothPromise s room x clean u a → BothPromise t other y second v b
     → rowOfBoth a ≡ rowOfBoth b → lengthsOf a ≡ lengthsOf b → a ≡ b
 
--- refusals-given: each of 1 to 10 is given, to some sheet; and what the table refuses, every call refuses so, in every room.
-abbrev pub RefusalsGiven : Type 0
-RefusalsGiven =
-    (e : ℕ) → 1 ≤ e → e ≤ 10
-    → (s : List ℕ) × (q : Refusal) × (q .number ≡ e) × (readSheet s ≡ refused q)
-    × ((room x : List ℕ) (a : Answer) → ReportPromise s room x a → (a ≡ one.Refused q) × (x ≡ room))
+-- table-refuses: what the table refuses, every call refuses so, in every room.
+abbrev pub TableRefuses : Type 0
+TableRefuses =
+    (s : List ℕ) (q : Refusal) → readSheet s ≡ refused q
+    → ((room x : List ℕ) (a : Answer) → ReportPromise s room x a → (a ≡ one.Refused q) × (x ≡ room))
     × ((room x : List ℕ) (a : Answer) → CleanPromise s room x a → (a ≡ one.Refused q) × (x ≡ room))
     × ((room x clean u : List ℕ) (a : Answers) → BothPromise s room x clean u a → (a ≡ two.Refused q) × (x ≡ room) × (u ≡ clean))
+
+-- refusals-given: each of 1 to 10 is given, to some sheet.
+abbrev pub RefusalsGiven : Type 0
+RefusalsGiven = (e : ℕ) → 1 ≤ e → e ≤ 10 → (s : List ℕ) × (q : Refusal) × (q .number ≡ e) × (readSheet s ≡ refused q)
 
 -- eleven-given: so is 11, to every accepted sheet, in a room without a byte.
 abbrev pub ElevenGiven : Type 0
 ElevenGiven =
-    (s x : List ℕ) (r : Sheet) → readSheet s ≡ kept r
+    (s x clean u : List ℕ) (r : Sheet) → readSheet s ≡ kept r
     → ((a : Answer) → ReportPromise s [] x a → a ≡ one.Refused (refusal 11 0)) × ((a : Answer) → CleanPromise s [] x a → a ≡ one.Refused (refusal 11 0))
+    × ((a : Answers) → BothPromise s [] x clean u a → a ≡ two.Refused (refusal 11 1))
 
 -- report-cut, clean-cut: of a longer input the first 65,537 bytes are enough, as the programs keep them.
 abbrev pub Cut : (List ℕ → List ℕ → List ℕ → Answer → Type 0) → Type 0
 Cut P = (s room x : List ℕ) (a : Answer) → P (take 65537 s) room x a ↔ P s room x a
 
--- both-as-single: "Both texts equal those of the single calls", with the same lengths and rooms, where both single calls are done. What the table refuses
--- is refused alike; where the single call would give 11 to an accepted sheet, this one gives it line 1 for the report, else line 2 for the clean sheet.
+-- both-as-single: "Both texts equal those of the single calls", with the same lengths and rooms, where both single calls are done. Where
+-- one of them gives 11 to an accepted sheet, this one gives 11 with line 1 for the report, else with line 2 for the clean sheet, and "neither room changes".
 abbrev pub BothAsSingle : Type 0
 BothAsSingle =
     (s room x y clean u v : List ℕ) (c : Answers) → BothPromise s room y clean v c
     → ((m n : ℕ) → ReportPromise s room x (one.Done m) → CleanPromise s clean u (one.Done n) → (c ≡ two.Done m n) × (y ≡ x) × (v ≡ u))
-    × ((q : Refusal) → readSheet s ≡ refused q → (c ≡ two.Refused q) × (y ≡ room) × (v ≡ clean))
     × ((r : Sheet) (q : Refusal) → readSheet s ≡ kept r → ReportPromise s room x (one.Refused q) → (c ≡ two.Refused (refusal 11 1)) × (y ≡ room) × (v ≡ clean))
     × ((m : ℕ) (q : Refusal) → ReportPromise s room x (one.Done m) → CleanPromise s clean u (one.Refused q) → (c ≡ two.Refused (refusal 11 2)) × (y ≡ room) × (v ≡ clean))
 

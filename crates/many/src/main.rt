@@ -1,13 +1,19 @@
 // Answers for many sheets in one run, so that thousands can be held against the walker in seconds.
 // Standard input has one frame after another: a length in decimal digits, byte 10, and that many
-// bytes, a sheet. For each sheet two frames are written: what the program `report` writes for it, and
-// what `clean` writes. Nothing is judged here.
+// bytes, a sheet. For each sheet three frames are written: what the program `report` writes for it, what
+// `clean` writes, and what the call with two rooms gave. That is the line of the refusal; or `done`, the
+// report's length and the clean sheet's, tab-parted, byte 10, and then both texts. Nothing is judged here.
+use calls::Answers;
 use libc::STDIN_FILENO;
+use tables::MOST_BYTES;
 
 // The most that a frame can hold, and the most digits that its length is written with.
 const MOST_LENGTH: usize = 1_000_000_000;
 
 const MOST_DIGITS: usize = 20;
+
+// More bytes than any line has that is written here.
+const LINE_ROOM: usize = 64;
 
 // What stands before a sheet's bytes: their number, or that no frame comes any more, or neither.
 enum Head {
@@ -24,25 +30,26 @@ enum Next {
 }
 
 fn main() {
-    let mut buf = [0u8; 65537];
-    let mut room = [0u8; 65536];
-    answer_all(&mut buf, &mut room);
+    let mut buf = [0u8; MOST_BYTES + 1];
+    let mut room = [0u8; MOST_BYTES];
+    let mut clean_room = [0u8; MOST_BYTES];
+    answer_all(&mut buf, &mut room, &mut clean_room);
 }
 
 // A proved loop has to end, and nothing says that an input does: so the loop counts its turns down,
 // from a number that no run uses up.
-fn answer_all(buf: &mut [u8], room: &mut [u8]) {
+fn answer_all(buf: &mut [u8], room: &mut [u8], clean_room: &mut [u8]) {
     let mut turns = u64::MAX;
-    while turns > 0 && answer_next(buf, room) {
+    while turns > 0 && answer_next(buf, room, clean_room) {
         turns -= 1;
     }
 }
 
-// Reads one frame and writes both answers; answers whether there was one and all was written.
-fn answer_next(buf: &mut [u8], room: &mut [u8]) -> bool {
+// Reads one frame and writes its three answers; answers whether there was one and all was written.
+fn answer_next(buf: &mut [u8], room: &mut [u8], clean_room: &mut [u8]) -> bool {
     let head = read_head();
     match head {
-        Head::Length(length) => answer_frame(buf, room, length),
+        Head::Length(length) => answer_frame(buf, room, clean_room, length),
         Head::End => false,
         Head::Broken => tell_broken(),
     }
@@ -50,11 +57,11 @@ fn answer_next(buf: &mut [u8], room: &mut [u8]) -> bool {
 
 // Never answers for a frame that does not come whole. Where the sheet is longer than buf it is answered
 // by what fits, as the programs do.
-fn answer_frame(buf: &mut [u8], room: &mut [u8], length: usize) -> bool {
+fn answer_frame(buf: &mut [u8], room: &mut [u8], clean_room: &mut [u8], length: usize) -> bool {
     if !read_sheet(buf, length) {
         return tell_broken();
     }
-    answer(console::first(buf, length), room)
+    answer(console::first(buf, length), room, clean_room)
 }
 
 // Answers that nothing more is to be answered.
@@ -63,13 +70,18 @@ fn tell_broken() -> bool {
     false
 }
 
-fn answer(text: &[u8], room: &mut [u8]) -> bool {
-    let m = answer_report(text, room);
+fn answer(text: &[u8], room: &mut [u8], clean_room: &mut [u8]) -> bool {
+    let a = calls::report(text, room);
+    let n = calls::put_answer(a, room);
+    if !print_frame(room, n) {
+        return false;
+    }
+    let b = calls::clean(text, room);
+    let m = calls::put_answer(b, room);
     if !print_frame(room, m) {
         return false;
     }
-    let n = answer_clean(text, room);
-    print_frame(room, n)
+    answer_both(text, room, clean_room)
 }
 
 // The number before the next byte 10. Only before its first byte the input may end.
@@ -168,29 +180,34 @@ fn pass_some(most: usize) -> usize {
     fill(&mut buf, most)
 }
 
-// Lays what `report` writes into the room; answers how many bytes that is.
-fn answer_report(text: &[u8], room: &mut [u8]) -> usize {
-    let r = reporting::report(text, room);
+// What the call with two rooms gave, as a frame; answers whether all was written.
+fn answer_both(text: &[u8], room: &mut [u8], clean_room: &mut [u8]) -> bool {
+    let r = calls::report_and_clean(text, room, clean_room);
     match r {
-        reporting::Answer::Done(m) => m,
-        reporting::Answer::Refused { number, line } => {
-            refusals::put_refusal(room, 0, number, line)
+        Answers::Done(n, m) => print_both(room, n, clean_room, m),
+        Answers::Refused(q) => {
+            let k = refusals::put_refusal(room, 0, q);
+            print_frame(room, k)
         }
     }
 }
 
-// The same for `clean`.
-fn answer_clean(text: &[u8], room: &mut [u8]) -> usize {
-    let r = cleaning::clean(text, room);
-    match r {
-        cleaning::Answer::Done(m) => m,
-        cleaning::Answer::Refused { number, line } => refusals::put_refusal(room, 0, number, line),
-    }
+// The line with both lengths and then both texts, laid side by side, since one frame holds all of it.
+fn print_both(room: &[u8], n: usize, clean_room: &[u8], m: usize) -> bool {
+    let mut both = [0u8; 2 * MOST_BYTES + LINE_ROOM];
+    let a = text::put_bytes(&mut both, 0, b"done\t");
+    let b = text::put_number(&mut both, a, n);
+    let c = text::put(&mut both, b, b'\t');
+    let d = text::put_number(&mut both, c, m);
+    let e = text::put(&mut both, d, b'\n');
+    let f = text::put_bytes(&mut both, e, console::first(room, n));
+    let g = text::put_bytes(&mut both, f, console::first(clean_room, m));
+    print_frame(&both, g)
 }
 
 // The first n bytes of the room as a frame; answers whether all was written.
 fn print_frame(room: &[u8], n: usize) -> bool {
-    let mut head = [0u8; 64];
+    let mut head = [0u8; LINE_ROOM];
     let a = text::put_number(&mut head, 0, n);
     let b = text::put(&mut head, a, b'\n');
     if !console::print(console::first(&head, b)) {

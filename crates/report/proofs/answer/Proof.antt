@@ -1,24 +1,11 @@
--- `answer`: the report as it was laid, or the line of the refusal. Assumes nothing.
-use Rattle.report.proofs.Prints.{prints-report, prints-refusal}
+-- `answer`: what `put_answer` leaves after the call is what is printed. Assumes nothing.
+use Rattle.calls.proofs.Shown.{printed}
 use borrow.Author.Needs.{needs}
 use Rattle.report.proofs.answer.Statement.{statement}
 use Rattle.report.proofs.answer.Tie as tie
 
 returns : tie.Need-returns
-returns c = prints-report _ _ _ _ (c .before .r .given .1) (c .before .before .before .before .before .report .ensures)
-
-returns-2 : tie.Need-returns-2
-returns-2 c = prints-refusal _ _ _ _ (c .before .before .before .before .before .r2 .given .1) (c .before .before .before .before .before .before .before .before .before .report .ensures) (c .before .before .put-refusal .ensures) (search needs) (search needs) (search needs)
+returns c = printed (c .before .before .before .before .before .before .report .ensures) (c .before .before .put-answer .ensures) (search needs)
 
 pub answer-spec : {M : Type 1} → statement M
-answer-spec =
-    tie.close
-    (tie.spec
-    (λ c κs. search needs)
-    (λ c. search needs)
-    (λ c. search needs)
-    (λ c κs. search needs)
-    (λ c. search needs)
-    returns
-    (λ c. search needs)
-    returns-2)
+answer-spec = tie.close (tie.spec (λ c κs. search needs) (λ c κs. search needs) (λ c. search needs) returns)

@@ -7,10 +7,10 @@ use Rattle.rooms.proofs.rooms.Statement.{statement}
 use Rattle.rooms.proofs.rooms.Tie as tie
 
 abbrev Inv-loop : tie.InvT-loop
-Inv-loop text area₀ what count size₀ area size = length area ≡ length area₀
+Inv-loop text area₀ asked count size₀ area size = length area ≡ length area₀
 
 abbrev μ-loop : tie.MeasureT-loop
-μ-loop text area₀ what count size₀ area size = count - size
+μ-loop text area₀ asked count size₀ area size = count - size
 
 pub rooms-spec : {M : Type 1} → statement M
 rooms-spec =
