@@ -14,6 +14,10 @@ use Rattle.verdicts.specs.Judging.{guardsAt}
 use Rattle.verdicts.proofs.Gathered.{out-reached}
 use Rattle.ordering.specs.Ordering.{keyAt, MadeRow, Orders}
 use Rattle.ordering.proofs.Laws.{orders-low, orders-has}
+use Rattle.text.specs.Text.{Wrote}
+use Rattle.text.proofs.Determined.{wrote-determined}
+use Rattle.normal.specs.Clean.{IsClean}
+use Rattle.normal.proofs.Unique.{is-clean-unique}
 use Rattle.cleaning.specs.Laying.{Ready, Prepared, RowsWithin, Outs}
 use Rattle.cleaning.proofs.Made.{rows-there}
 
@@ -41,3 +45,8 @@ pub gathered-outs : {m g sets : List (List ℕ)} {k : ℕ} {old out : List (List
     → ((q : ℕ) → q < length old → (p : ℕ) → p < 1024 → has (getD out q []) p ≡ max (has (getD old q []) p) (guardsAt m g q p k))
     → old ≡ replicate (length old) (replicate 16 0) → min 64 (length sets) ≤ length old → Outs m g sets k out
 gathered-outs {m} {g} {sets} {k} {out = out} f e l = record { is = out-reached m g sets k (λ q. getD out q []) e l f }
+
+-- of the sheet that the tables stand for: the answer and the room are determined
+pub put-clean-determined : {r : Sheet} {l x y : List ℕ} {m n : ℕ} → (vs : List ℕ) × IsClean r vs × Wrote l 0 vs x m
+    → (vs : List ℕ) × IsClean r vs × Wrote l 0 vs y n → (x ≡ y) × (m ≡ n)
+put-clean-determined (u, i, a) (v, j, b) = wrote-determined a (rw (is-clean-unique j i) at b)

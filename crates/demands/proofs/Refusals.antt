@@ -25,10 +25,11 @@ use Rattle.reporting.specs.Report.{depthRow, IsReport}
 use Rattle.normal.specs.Clean.{IsClean}
 use Rattle.calls.specs.declared.Answer.{Answer}
 use Rattle.calls.specs.declared.Answer.the-variants as one
+use Rattle.calls.specs.declared.Answers.{Answers}
 use Rattle.calls.specs.declared.Answers.the-variants as two
 use Rattle.calls.specs.Promise.{TooLong, OneText, nothing, ReportPromise, cleanMost, CleanPromise, BothPromise}
 use Rattle.demands.specs.Printed.{onto, printed}
-use Rattle.demands.specs.Demands.{Refusals, BothRefusals, Told, BothTold, TableRefuses, RefusalsGiven, ElevenGiven, Cut}
+use Rattle.demands.specs.Demands.{Refusals, BothRefusals, Told, BothTold, TableRefuses, RefusalsGiven, ElevenGiven, Cut, BothCut}
 use Rattle.demands.proofs.Demands.{report-determined, clean-determined, both-determined}
 
 -- ---- the numbers
@@ -117,6 +118,14 @@ both-told s room x clean u t other y second v (two.Done m n) (two.Done i j) h k 
 both-told s room x clean u t other y second v (two.Done m n) (two.Refused q) h k row e = absurd (not-done (both-refusals t other y second v q k) (sym row))
 both-told s room x clean u t other y second v (two.Refused p) (two.Done i j) h k row e = absurd (not-done (both-refusals s room x clean u p h) row)
 both-told s room x clean u t other y second v (two.Refused p) (two.Refused q) h k row e = ap two.Refused row
+
+both-as : (s t : List ℕ) → readSheet s ≡ readSheet t → (room x clean u : List ℕ) (a : Answers) → BothPromise s room x clean u a → BothPromise t room x clean u a
+both-as s t e room x clean u (two.Done m n) (r, f, h, k) = (r, sym e ∙ f, h, k)
+both-as s t e room x clean u (two.Refused q) (k, j, inl f) = (k, j, inl (sym e ∙ f))
+both-as s t e room x clean u (two.Refused q) (k, j, inr (r, f, h)) = (k, j, inr (r, sym e ∙ f, h))
+
+pub both-cut : BothCut
+both-cut s room x clean u a = (both-as (take 65537 s) s (cut-same s) room x clean u a, both-as s (take 65537 s) (sym (cut-same s)) room x clean u a)
 
 -- ---- a sheet for each
 

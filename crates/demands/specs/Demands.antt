@@ -70,9 +70,12 @@ ElevenGiven =
     → ((a : Answer) → ReportPromise s [] x a → a ≡ one.Refused (refusal 11 0)) × ((a : Answer) → CleanPromise s [] x a → a ≡ one.Refused (refusal 11 0))
     × ((a : Answers) → BothPromise s [] x clean u a → a ≡ two.Refused (refusal 11 1))
 
--- report-cut, clean-cut: of a longer input the first 65,537 bytes are enough, as the programs keep them.
+-- report-cut, clean-cut, both-cut: of a longer input the first 65,537 bytes are enough, as the programs keep them.
 abbrev pub Cut : (List ℕ → List ℕ → List ℕ → Answer → Type 0) → Type 0
 Cut P = (s room x : List ℕ) (a : Answer) → P (take 65537 s) room x a ↔ P s room x a
+
+abbrev pub BothCut : Type 0
+BothCut = (s room x clean u : List ℕ) (a : Answers) → BothPromise (take 65537 s) room x clean u a ↔ BothPromise s room x clean u a
 
 -- both-as-single: "Both texts equal those of the single calls", with the same lengths and rooms, where both single calls are done. Where
 -- one of them gives 11 to an accepted sheet, this one gives 11 with line 1 for the report, else with line 2 for the clean sheet, and "neither room changes".

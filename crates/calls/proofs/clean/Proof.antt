@@ -1,3 +1,4 @@
+-- `clean`: the job's promise, told by its first length. Assumes nothing.
 use borrow.Author.Needs.{needs}
 use Rattle.calls.proofs.clean.Statement.{statement}
 use Rattle.calls.proofs.clean.Tie as tie

@@ -1,3 +1,4 @@
+-- `clean_length`: a run without a room. Assumes nothing.
 use Rattle.calls.proofs.Desk.{is-long}
 use borrow.Author.Needs.{needs}
 use Rattle.calls.proofs.clean_length.Statement.{statement}

@@ -1,3 +1,4 @@
+-- `first_of`: the first length of a job with one room, or the refusal. Assumes nothing.
 use borrow.Author.Needs.{needs}
 use Rattle.calls.proofs.first_of.Statement.{statement}
 use Rattle.calls.proofs.first_of.Tie as tie

@@ -1,3 +1,4 @@
+-- `lay`: each job by its own function. Assumes nothing.
 use borrow.Author.Needs.{needs}
 use Rattle.calls.proofs.lay.Statement.{statement}
 use Rattle.calls.proofs.lay.Tie as tie

@@ -1,3 +1,4 @@
+-- `lay_both`: each return by the report's first run and by what `lay_clean` left. Assumes nothing.
 use native.Mathlib.Omega.{arith}
 use Rattle.reporting.proofs.Determined.{report-determined}
 use Rattle.calls.proofs.Desk.{for-report, outward, is-long, too-long, fits, filled, report-long, clean-long, both-fill}

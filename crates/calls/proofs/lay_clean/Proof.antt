@@ -1,3 +1,4 @@
+-- `lay_clean`: the ordered rows are there; the first run tells the length, and the second lays the text or 11 is given. Assumes nothing.
 use mathlib.Core.Path.{refl}
 use native.Mathlib.Omega.{arith}
 use Rattle.calls.proofs.Desk.{for-clean, too-long, filled, one-clean}

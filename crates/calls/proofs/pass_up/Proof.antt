@@ -1,3 +1,4 @@
+-- `pass_up`: the reader's refusal as the call's; a sheet that is kept never comes here. Assumes nothing.
 use borrow.Author.Needs.{needs}
 use Rattle.calls.proofs.pass_up.Statement.{statement}
 use Rattle.calls.proofs.pass_up.Tie as tie

@@ -1,3 +1,4 @@
+-- `put_answer`: the text as it lies, or the refusal's line. Assumes nothing.
 use mathlib.Core.Path.{refl}
 use Rattle.refusals.proofs.Short.{refusal-whole}
 use Rattle.calls.specs.Shown.{text, line}

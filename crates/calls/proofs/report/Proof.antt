@@ -1,3 +1,4 @@
+-- `report`: the job's promise, told by its first length. Assumes nothing.
 use borrow.Author.Needs.{needs}
 use Rattle.calls.proofs.report.Statement.{statement}
 use Rattle.calls.proofs.report.Tie as tie

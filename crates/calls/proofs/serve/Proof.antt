@@ -1,3 +1,4 @@
+-- `serve`: 1 and 2 by the length, else by a size of tables. Assumes nothing.
 use native.Mathlib.Omega.{arith}
 use Rattle.sheet.proofs.Whole.{read-long, read-empty}
 use Rattle.calls.proofs.Served.{refused-served}

@@ -1,3 +1,4 @@
+-- `serve_by`: the reader's refusal unchanged, or what the job leaves for the sheet that was read. Assumes nothing.
 use Rattle.sheet.proofs.Accepted.{accepted}
 use Rattle.calls.proofs.Served.{served, refused-served}
 use borrow.Author.Needs.{needs}

@@ -1,3 +1,4 @@
+-- `serve_large`: 256 and 64 rows are enough for every text. Assumes nothing.
 use mathlib.Core.Path.{refl}
 use native.Mathlib.Omega.{arith}
 use borrow.Author.Needs.{needs}

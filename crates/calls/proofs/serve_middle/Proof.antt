@@ -1,3 +1,4 @@
+-- `serve_middle`: 90 and 64 rows are enough for 1,170 bytes. Assumes nothing.
 use mathlib.Core.Path.{refl}
 use native.Mathlib.Omega.{arith}
 use borrow.Author.Needs.{needs}

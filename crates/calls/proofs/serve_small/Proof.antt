@@ -1,3 +1,4 @@
+-- `serve_small`: 13 and 19 rows are enough for 169 bytes. Assumes nothing.
 use mathlib.Core.Path.{refl}
 use native.Mathlib.Omega.{arith}
 use borrow.Author.Needs.{needs}

@@ -1,3 +1,4 @@
+-- `spread_high`: the sets that were spread and the out sets lie on the desk. Assumes nothing.
 use mathlib.Core.Path.{refl}
 use lib.ListN.{replicate}
 use native.Mathlib.Omega.{arith}

@@ -1,3 +1,4 @@
+-- `spread_low`: the same with eight rows. Assumes nothing.
 use mathlib.Core.Path.{refl}
 use lib.ListN.{replicate}
 use native.Mathlib.Omega.{arith}
