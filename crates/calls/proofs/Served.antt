@@ -6,7 +6,11 @@ use Prim.Native.Nat.{ℕ, _≤_}
 use lib.ListN.{length}
 use Rattle.refusals.specs.declared.Refusal.{Refusal}
 use Rattle.sheet.specs.Sheet.{Sheet}
+use Rattle.sheet.specs.declared.Counts.{Counts}
 use Rattle.sheet.specs.Reading.{kept, refused, readSheet}
+use Rattle.sheet.specs.Tables.{Tables, StandsFor, ReadInto}
+use Rattle.sheet.specs.Accepted.{Accepted}
+use Rattle.sheet.proofs.Accepted.{accepted}
 use Rattle.reporting.specs.Report.{IsReport}
 use Rattle.normal.specs.Clean.{IsClean}
 use Rattle.calls.specs.declared.Job.{Job}
@@ -31,9 +35,14 @@ module _ (s : List ℕ) {r : Sheet} (read : readSheet s ≡ kept r) where
   serves Clean room room′ second second′ a l = one-served a IsClean (cleanMost room) l
   serves Both room room′ second second′ a l = both-served a l
 
-pub served : {s : List ℕ} {r : Sheet} → readSheet s ≡ kept r → {job : Job} {room room′ second second′ : List ℕ} {a : Answers} → Left job r room room′ second second′ a
+served : {s : List ℕ} {r : Sheet} → readSheet s ≡ kept r → {job : Job} {room room′ second second′ : List ℕ} {a : Answers} → Left job r room room′ second second′ a
     → Served job s room room′ second second′ a
 served {s} read {job} {room} {room′} {second} {second′} {a} l = record { is = serves s read job room room′ second second′ a (l .is) }
+
+-- the sheet that was read into the tables is accepted, and what the job leaves for it is what it promises
+pub read-served : {s : List ℕ} {T : Tables} {c : Counts} → ReadInto s T c → {job : Job} {room room′ second second′ : List ℕ} {a : Answers}
+    → ((r : Sheet) → StandsFor s T c r → Accepted r → Left job r room room′ second second′ a) → Served job s room room′ second second′ a
+read-served {s} (r, read, stands) f = served read (f r stands (accepted s read))
 
 pub refused-served : {s : List ℕ} {q : Refusal} → readSheet s ≡ refused q → {job : Job} {room second : List ℕ} → Served job s room room second second (two.Refused q)
 refused-served {s} {q} e {job} {room} {second} = record { is = refuses job }

@@ -1,6 +1,5 @@
 -- `serve_by`: the reader's refusal unchanged, or what the job leaves for the sheet that was read. Assumes nothing.
-use Rattle.sheet.proofs.Accepted.{accepted}
-use Rattle.calls.proofs.Served.{served, refused-served}
+use Rattle.calls.proofs.Served.{read-served, refused-served}
 use borrow.Author.Needs.{needs}
 use Rattle.calls.proofs.serve_by.Statement.{statement}
 use Rattle.calls.proofs.serve_by.Tie as tie
@@ -9,7 +8,7 @@ returns : tie.Need-returns
 returns c = let told = c .before .enum-told .given .1 in rw (c .pass-up .ensures _ told) (refused-served ((rw told at (c .before .before .before .before .before .before .before .read-blank .ensures)) .0))
 
 returns-2 : tie.Need-returns-2
-returns-2 c = let read = (rw (c .before .before .before .before .before .before .before .before .before .before .before .before .before .r .given .1) at (c .before .before .before .before .before .before .before .before .before .before .before .before .before .before .before .before .before .before .before .read-blank .ensures)) .0 in served (read .1) (c .before .before .before .before .spread-out .ensures (read .0) (read .2) (accepted _ (read .1)))
+returns-2 c = read-served ((rw (c .before .before .before .before .before .before .before .before .before .before .before .before .before .r .given .1) at (c .before .before .before .before .before .before .before .before .before .before .before .before .before .before .before .before .before .before .before .read-blank .ensures)) .0) (c .before .before .before .before .spread-out .ensures)
 
 pub serve-by-spec : {M : Type 1} → statement M
 serve-by-spec =
