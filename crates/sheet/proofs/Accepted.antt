@@ -11,6 +11,7 @@ use lib.ListN.{length}
 use lib.Pow.{pow-mono}
 use Rattle.text.specs.Text.{decimal}
 use Rattle.refusals.specs.declared.Refusal.{Refusal}
+use Rattle.refusals.specs.Refusal.{refusal}
 use Rattle.products.specs.declared.Found.{Found}
 use Rattle.products.specs.declared.Found.the-variants.{At, Nothing}
 use Rattle.fields.specs.declared.Number.{Number}
@@ -32,25 +33,27 @@ use Rattle.sheet.proofs.ValidProducts.{some, valid-both}
 abbrev InTable : ℕ → Type 0
 InTable e = (leb 1 e && leb e 10) ≡ true
 
--- an answer that is refused by a number of the table, or kept with the property P
-pub data Told {A : Type 0} (P : A → Type 0) : Answer A → Type 0 where
-  keeps : {x : A} → P x → Told P (kept x)
-  refuses : {q : Refusal} → InTable (q .number) → Told P (refused q)
+-- an answer that is refused with the property R, or kept with the property P
+pub data Tells {A : Type 0} (R : Refusal → Type 0) (P : A → Type 0) : Answer A → Type 0 where
+  keeps : {x : A} → P x → Tells R P (kept x)
+  refuses : {q : Refusal} → R q → Tells R P (refused q)
 
-pub told-kept : {A : Type 0} {P : A → Type 0} {a : Answer A} {x : A} → Told P a → a ≡ kept x → P x
+pub told-kept : {A : Type 0} {R : Refusal → Type 0} {P : A → Type 0} {a : Answer A} {x : A} → Tells R P a → a ≡ kept x → P x
 told-kept {x = x} (keeps {x = y} p) e = let z : y ≡ x = cc in rw z at p
 told-kept (refuses h) e = let z : _≡_ {A = ℕ} 0 1 = cc in absurd (omega arith)
 
-pub told-refused : {A : Type 0} {P : A → Type 0} {a : Answer A} {q : Refusal} → Told P a → a ≡ refused q → (1 ≤ q .number) × (q .number ≤ 10)
+pub told-refused : {A : Type 0} {R : Refusal → Type 0} {P : A → Type 0} {a : Answer A} {q : Refusal} → Tells R P a → a ≡ refused q → R q
 told-refused (keeps p) e = let z : _≡_ {A = ℕ} 0 1 = cc in absurd (omega arith)
-told-refused {q = q} (refuses {q = d} h) e =
-    let z : d ≡ q = cc in
-    let k = and-eq-true-iff (leb 1 (q .number)) (leb (q .number) 10) .0 (rw z at h) in
-    (leb-true 1 (q .number) (k .0), leb-true (q .number) 10 (k .1))
+told-refused {q = q} (refuses {q = d} h) e = let z : d ≡ q = cc in rw z at h
+
+-- an answer that is refused by a number of the table, or kept with the property P
+abbrev pub Told : {A : Type 0} → (A → Type 0) → Answer A → Type 0
+Told P a = Tells (λ q. InTable (q .number)) P a
 
 -- ---- what each test tells
 
-pub told-if : {A : Type 0} {P : A → Type 0} {a : Answer A} (e n : ℕ) (t : Bool) → InTable e → (t ≡ false → Told P a) → Told P (refuseIf t e n a)
+pub told-if : {A : Type 0} {R : Refusal → Type 0} {P : A → Type 0} {a : Answer A} (e n : ℕ) (t : Bool) → R (refusal e n) → (t ≡ false → Tells R P a)
+    → Tells R P (refuseIf t e n a)
 told-if e n true h f = refuses h
 told-if e n false h f = f refl
 
@@ -205,8 +208,8 @@ word-told n at st sound (w ∷ fs) = kind-told n (at + length w + 1) st sound w 
 
 -- ---- all lines, and the end
 
-pub told-on : {P : State → Type 0} {Q : Sheet → Type 0} {a : Answer State} {k : State → Answer Sheet} → Told P a → ((st : State) → P st → Told Q (k st))
-    → Told Q (goOn a k)
+pub told-on : {R : Refusal → Type 0} {P : State → Type 0} {Q : Sheet → Type 0} {a : Answer State} {k : State → Answer Sheet} → Tells R P a
+    → ((st : State) → P st → Tells R Q (k st)) → Tells R Q (goOn a k)
 told-on (keeps {x = st} p) f = f st p
 told-on (refuses h) f = refuses h
 
@@ -249,7 +252,9 @@ accepted s e = told-kept (sheet-told s) e
 
 -- refusals have the numbers of the table
 pub refused-number : (s : List ℕ) {q : Refusal} → readSheet s ≡ refused q → (1 ≤ q .number) × (q .number ≤ 10)
-refused-number s e = told-refused (sheet-told s) e
+refused-number s {q} e =
+    let k = and-eq-true-iff (leb 1 (q .number)) (leb (q .number) 10) .0 (told-refused (sheet-told s) e) in
+    (leb-true 1 (q .number) (k .0), leb-true (q .number) 10 (k .1))
 
 -- a valid product of such a sheet is a product of its features, and so below 1,024
 pub valid-small : {r : Sheet} {p : ℕ} → Accepted r → isValid r p ≡ true → (p < 2 ^ length (r .features)) × (holds (r .valid) p ≡ true) × (p < 1024)

@@ -4,6 +4,7 @@ pub mod LineKinds
 pub mod Apart
 pub mod Lines
 pub mod Accepted
+pub mod Numbered
 pub mod Determined
 pub mod Written
 pub mod ReadBack

@@ -3,4 +3,5 @@ pub mod Reading
 pub mod Tables
 pub mod Inside
 pub mod Accepted
+pub mod Numbered
 pub mod Spelling
