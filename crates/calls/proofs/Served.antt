@@ -9,8 +9,8 @@ use Rattle.sheet.specs.Sheet.{Sheet}
 use Rattle.sheet.specs.declared.Counts.{Counts}
 use Rattle.sheet.specs.Reading.{kept, refused, readSheet}
 use Rattle.sheet.specs.Tables.{Tables, StandsFor, ReadInto}
-use Rattle.sheet.specs.Accepted.{Accepted}
 use Rattle.sheet.proofs.Accepted.{accepted}
+use Rattle.sheet.proofs.Numbered.{kept-lines}
 use Rattle.reporting.specs.Report.{IsReport}
 use Rattle.normal.specs.Clean.{IsClean}
 use Rattle.calls.specs.declared.Job.{Job}
@@ -18,10 +18,10 @@ use Rattle.calls.specs.declared.Job.the-variants.{Report, Clean, Both}
 use Rattle.calls.specs.declared.Answers.{Answers}
 use Rattle.calls.specs.declared.Answers.the-variants as two
 use Rattle.calls.specs.Promise.{OneText, nothing, cleanMost, BothPromise}
-use Rattle.calls.specs.Inside.{firstOf, Serves, Served, Filling, BothFilling, Leaves, Left}
+use Rattle.calls.specs.Inside.{firstOf, Serves, Served, Comes, Filling, BothFilling, Leaves, Left}
 
 module _ (s : List ℕ) {r : Sheet} (read : readSheet s ≡ kept r) where
-  one-served : {room room′ : List ℕ} (a : Answers) (Is : Sheet → List ℕ → Type 0) (most : ℕ) → Filling (Is r) most 0 room room′ a
+  one-served : {room room′ : List ℕ} (a : Answers) (Is : Sheet → List ℕ → Type 0) (most : ℕ) → Filling (Is r) most room room′ a
       → OneText nothing Is most s room room′ (firstOf a)
   one-served (two.Done n m) Is most l = (r, read, l .is)
   one-served (two.Refused q) Is most l = (l .is .0, inr (r, read, inr (l .is .1)))
@@ -41,8 +41,8 @@ served {s} read {job} {room} {room′} {second} {second′} {a} l = record { is 
 
 -- the sheet that was read into the tables is accepted, and what the job leaves for it is what it promises
 pub read-served : {s : List ℕ} {T : Tables} {c : Counts} → ReadInto s T c → {job : Job} {room room′ second second′ : List ℕ} {a : Answers}
-    → ((r : Sheet) → StandsFor s T c r → Accepted r → Left job r room room′ second second′ a) → Served job s room room′ second second′ a
-read-served {s} (r, read, stands) f = served read (f r stands (accepted s read))
+    → ((r : Sheet) → StandsFor s T c r → Comes r → Left job r room room′ second second′ a) → Served job s room room′ second second′ a
+read-served {s} (r, read, stands) f = served read (f r stands (record { accepted = accepted s read; lines = kept-lines s read }))
 
 pub refused-served : {s : List ℕ} {q : Refusal} → readSheet s ≡ refused q → {job : Job} {room second : List ℕ} → Served job s room room second second (two.Refused q)
 refused-served {s} {q} e {job} {room} {second} = record { is = refuses job }

@@ -4,17 +4,17 @@ ghost use mathlib.Core.Path.{_≡_};
 ghost use mathlib.Core.List.{List};
 ghost use Prim.Native.Nat.{ℕ, _*_, _%_, _≤_, _<_, min};
 ghost use lib.ListN.{length, replicate};
+ghost use Rattle.text.specs.Text.{limit};
 ghost use Rattle.refusals.specs.Refusal.{refusal};
 ghost use Rattle.sheet.specs.Sheet.{Sheet};
 ghost use Rattle.sheet.specs.Tables.{tables, blankTables, StandsFor};
-ghost use Rattle.sheet.specs.Accepted.{Accepted};
 ghost use Rattle.family.specs.Rounds.{toAt, highestTo};
 ghost use Rattle.reporting.specs.Report.{IsReport};
 ghost use Rattle.normal.specs.Clean.{IsClean};
 ghost use Rattle.cleaning.specs.Laying.{Outs, RowsWithin, Prepared};
 ghost use Rattle.calls.specs.Promise.{cleanMost, ReportPromise, CleanPromise, BothPromise};
 ghost use Rattle.calls.specs.Shown.{Put};
-ghost use Rattle.calls.specs.Inside.{firstOf, Served, Long, Filling, BothFilling, Left, Laid};
+ghost use Rattle.calls.specs.Inside.{firstOf, Served, Comes, Long, Longer, Fitting, Filling, BothFilling, Left, Laid};
 use cleaning::put_clean;
 use ordering::order_moves;
 use refusals::Refusal;
@@ -59,6 +59,9 @@ const MIDDLE_MOVES: usize = 90;
 
 // Where no product reaches a state from here on, the states' sets have so many rows.
 const LOW: usize = 8;
+
+// No report is longer; that is proved.
+const REPORT_MOST: usize = 9545;
 
 // Lays the report of the sheet `text` into `room`.
 pub fn report(text: &[u8], room: &mut [u8]) -> Answer
@@ -262,7 +265,7 @@ fn spread_out(
     stops: &[[usize; 2]],
     stop_guards: &[[u64; 16]],
 ) -> Answers
-    ensures { λ a. ⌜ ((r : Sheet) → StandsFor (now (text .entry)) (tables (now (names .entry)) valid (now (moves .entry)) (now («move_guards» .entry)) (now (stops .entry)) (now («stop_guards» .entry))) c r → Accepted r → Left job r (now (room .entry)) (now (room .exit)) (now (second .entry)) (now (second .exit)) a) ⌝ }
+    ensures { λ a. ⌜ ((r : Sheet) → StandsFor (now (text .entry)) (tables (now (names .entry)) valid (now (moves .entry)) (now («move_guards» .entry)) (now (stops .entry)) (now («stop_guards» .entry))) c r → Comes r → Left job r (now (room .entry)) (now (room .exit)) (now (second .entry)) (now (second .exit)) a) ⌝ }
 {
     if family::highest(c.start, c.moves, moves) < LOW {
         return spread_low(
@@ -309,7 +312,7 @@ fn spread_low(
     stop_guards: &[[u64; 16]],
 ) -> Answers
     requires { ⌜ highestTo (c .start % 64) (toAt (now moves)) (min (min (c .moves) 256) (length (now moves))) < 8 ⌝ }
-    ensures { λ a. ⌜ ((r : Sheet) → StandsFor (now (text .entry)) (tables (now (names .entry)) valid (now (moves .entry)) (now («move_guards» .entry)) (now (stops .entry)) (now («stop_guards» .entry))) c r → Accepted r → Left job r (now (room .entry)) (now (room .exit)) (now (second .entry)) (now (second .exit)) a) ⌝ }
+    ensures { λ a. ⌜ ((r : Sheet) → StandsFor (now (text .entry)) (tables (now (names .entry)) valid (now (moves .entry)) (now («move_guards» .entry)) (now (stops .entry)) (now («stop_guards» .entry))) c r → Comes r → Left job r (now (room .entry)) (now (room .exit)) (now (second .entry)) (now (second .exit)) a) ⌝ }
 {
     let mut sets = [[0u64; 16]; LOW];
     let depth = family::spread_low(c.start, valid, c.moves, moves, move_guards, &mut sets);
@@ -347,7 +350,7 @@ fn spread_high(
     stops: &[[usize; 2]],
     stop_guards: &[[u64; 16]],
 ) -> Answers
-    ensures { λ a. ⌜ ((r : Sheet) → StandsFor (now (text .entry)) (tables (now (names .entry)) valid (now (moves .entry)) (now («move_guards» .entry)) (now (stops .entry)) (now («stop_guards» .entry))) c r → Accepted r → Left job r (now (room .entry)) (now (room .exit)) (now (second .entry)) (now (second .exit)) a) ⌝ }
+    ensures { λ a. ⌜ ((r : Sheet) → StandsFor (now (text .entry)) (tables (now (names .entry)) valid (now (moves .entry)) (now («move_guards» .entry)) (now (stops .entry)) (now («stop_guards» .entry))) c r → Comes r → Left job r (now (room .entry)) (now (room .exit)) (now (second .entry)) (now (second .exit)) a) ⌝ }
 {
     let mut sets = [[0u64; 16]; 64];
     let depth = family::spread(c.start, valid, c.moves, moves, move_guards, &mut sets);
@@ -393,7 +396,7 @@ fn lay(
 {
     match job {
         Job::Report => lay_report(room, c, depth, sets, out, moves, guards, stops, stop_guards),
-        Job::Clean => lay_clean(0, text, room, c, names, valid, sets, out, moves, guards),
+        Job::Clean => lay_clean(text, room, c, names, valid, sets, out, moves, guards),
         Job::Both => lay_both(
             text,
             room,
@@ -412,7 +415,7 @@ fn lay(
     }
 }
 
-// The report, if it fits. How long it is, a run without a room tells.
+// The report, if it fits.
 fn lay_report(
     room: &mut [u8],
     c: Counts,
@@ -425,11 +428,10 @@ fn lay_report(
     stop_guards: &[[u64; 16]],
 ) -> Answers
     requires { ⌜ (min 64 (length (now sets)) ≤ length (now out)) × Outs (now moves) (now guards) (now sets) (min (min (min (c .moves) 256) (length (now moves))) (length (now guards))) (now out) ⌝ }
-    ensures { λ a. ⌜ ((s : List ℕ) (n : List (List ℕ)) (v : List ℕ) (r : Sheet) → Laid s c (tables n v (now (moves .entry)) (now (guards .entry)) (now (stops .entry)) (now («stop_guards» .entry))) (now (sets .entry)) depth r → Filling (IsReport _≤_ r) (length (now (room .entry))) 0 (now (room .entry)) (now (room .exit)) a) ⌝ }
+    ensures { λ a. ⌜ ((s : List ℕ) (n : List (List ℕ)) (v : List ℕ) (r : Sheet) → Laid s c (tables n v (now (moves .entry)) (now (guards .entry)) (now (stops .entry)) (now («stop_guards» .entry))) (now (sets .entry)) depth r → Filling (IsReport _≤_ r) (length (now (room .entry))) (now (room .entry)) (now (room .exit)) a) ⌝ }
 {
-    let mut none = [0u8; 0];
-    let n = put_report(
-        &mut none,
+    if !report_fits(
+        room.len(),
         c,
         depth,
         sets,
@@ -438,17 +440,15 @@ fn lay_report(
         guards,
         stops,
         stop_guards,
-    );
-    if room.len() < n {
+    ) {
         return refuse(11, 0);
     }
     let k = put_report(room, c, depth, sets, out, moves, guards, stops, stop_guards);
     Answers::Done(k, 0)
 }
 
-// The clean sheet, if it fits; 11 speaks of the line given.
+// The clean sheet, if it fits.
 fn lay_clean(
-    line: usize,
     text: &[u8],
     room: &mut [u8],
     c: Counts,
@@ -460,13 +460,13 @@ fn lay_clean(
     guards: &[[u64; 16]],
 ) -> Answers
     requires { ⌜ (min 64 (length (now sets)) ≤ length (now out)) × Outs (now moves) (now guards) (now sets) (min (min (min (c .moves) 256) (length (now moves))) (length (now guards))) (now out) ⌝ }
-    ensures { λ a. ⌜ ((t h : List (List ℕ)) (depth : ℕ) (r : Sheet) → Laid (now (text .entry)) c (tables (now (names .entry)) valid (now (moves .entry)) (now (guards .entry)) t h) (now (sets .entry)) depth r → Filling (IsClean r) (cleanMost (now (room .entry))) line (now (room .entry)) (now (room .exit)) a) ⌝ }
+    ensures { λ a. ⌜ ((t h : List (List ℕ)) (depth : ℕ) (r : Sheet) → Laid (now (text .entry)) c (tables (now (names .entry)) valid (now (moves .entry)) (now (guards .entry)) t h) (now (sets .entry)) depth r → Filling (IsClean r) (cleanMost (now (room .entry))) (now (room .entry)) (now (room .exit)) a) ⌝ }
 {
     let mut rows = [0u8; 256];
     let kept = order_moves(text, c.moves, moves, guards, sets, &mut rows);
     let n = clean_length(text, c, names, valid, moves, guards, sets, out, &rows, kept);
     if counts::at_most(room.len(), MOST_BYTES) < n {
-        return refuse(11, line);
+        return refuse(11, 0);
     }
     let k = put_clean(
         room,
@@ -484,8 +484,7 @@ fn lay_clean(
     Answers::Done(k, 0)
 }
 
-// Both, if both fit. The report's room is written last, and the clean sheet's only once the report is
-// known to fit.
+// Both, if both fit: no room is written before both are known to.
 fn lay_both(
     text: &[u8],
     room: &mut [u8],
@@ -504,9 +503,25 @@ fn lay_both(
     requires { ⌜ (min 64 (length (now sets)) ≤ length (now out)) × Outs (now moves) (now guards) (now sets) (min (min (min (c .moves) 256) (length (now moves))) (length (now guards))) (now out) ⌝ }
     ensures { λ a. ⌜ ((r : Sheet) → Laid (now (text .entry)) c (tables (now (names .entry)) valid (now (moves .entry)) (now (guards .entry)) (now (stops .entry)) (now («stop_guards» .entry))) (now (sets .entry)) depth r → BothFilling r (now (room .entry)) (now (room .exit)) (now (second .entry)) (now (second .exit)) a) ⌝ }
 {
-    let mut no_room = [0u8; 0];
-    let long = put_report(
-        &mut no_room,
+    let mut rows = [0u8; 256];
+    let kept = order_moves(text, c.moves, moves, guards, sets, &mut rows);
+    let long = clean_length(text, c, names, valid, moves, guards, sets, out, &rows, kept);
+    if counts::at_most(second.len(), MOST_BYTES) < long {
+        let line = longer(
+            room.len(),
+            c,
+            depth,
+            sets,
+            out,
+            moves,
+            guards,
+            stops,
+            stop_guards,
+        );
+        return refuse(11, line);
+    }
+    if !report_fits(
+        room.len(),
         c,
         depth,
         sets,
@@ -515,16 +530,99 @@ fn lay_both(
         guards,
         stops,
         stop_guards,
-    );
-    if room.len() < long {
+    ) {
         return refuse(11, 1);
     }
-    let a = lay_clean(2, text, second, c, names, valid, sets, out, moves, guards);
-    let Answers::Done(m, _none) = a else {
-        return a;
-    };
+    let m = put_clean(
+        second,
+        text,
+        c,
+        names,
+        valid,
+        moves,
+        guards,
+        sets,
+        out,
+        &rows,
+        kept,
+    );
     let n = put_report(room, c, depth, sets, out, moves, guards, stops, stop_guards);
     Answers::Done(n, m)
+}
+
+// Of which room 11 speaks where the clean sheet is too long: of the report's, 1, if that is too long as
+// well.
+fn longer(
+    most: usize,
+    c: Counts,
+    depth: usize,
+    sets: &[[u64; 16]],
+    out: &[[u64; 16]],
+    moves: &[[usize; 6]],
+    guards: &[[u64; 16]],
+    stops: &[[usize; 2]],
+    stop_guards: &[[u64; 16]],
+) -> usize
+    requires { ⌜ most < limit ⌝ }
+    requires { ⌜ (min 64 (length (now sets)) ≤ length (now out)) × Outs (now moves) (now guards) (now sets) (min (min (min (c .moves) 256) (length (now moves))) (length (now guards))) (now out) ⌝ }
+    ensures { λ line. ⌜ ((s : List ℕ) (n : List (List ℕ)) (v : List ℕ) (r : Sheet) → Laid s c (tables n v (now (moves .entry)) (now (guards .entry)) (now (stops .entry)) (now («stop_guards» .entry))) (now (sets .entry)) depth r → Longer (IsReport _≤_ r) most line) ⌝ }
+{
+    let n = report_length(c, depth, sets, out, moves, guards, stops, stop_guards);
+    if most < n {
+        return 1;
+    }
+    2
+}
+
+// Whether the report has at most so many bytes. What no report exceeds needs no run.
+fn report_fits(
+    most: usize,
+    c: Counts,
+    depth: usize,
+    sets: &[[u64; 16]],
+    out: &[[u64; 16]],
+    moves: &[[usize; 6]],
+    guards: &[[u64; 16]],
+    stops: &[[usize; 2]],
+    stop_guards: &[[u64; 16]],
+) -> bool
+    requires { ⌜ most < limit ⌝ }
+    requires { ⌜ (min 64 (length (now sets)) ≤ length (now out)) × Outs (now moves) (now guards) (now sets) (min (min (min (c .moves) 256) (length (now moves))) (length (now guards))) (now out) ⌝ }
+    ensures { λ b. ⌜ ((s : List ℕ) (n : List (List ℕ)) (v : List ℕ) (r : Sheet) → Laid s c (tables n v (now (moves .entry)) (now (guards .entry)) (now (stops .entry)) (now («stop_guards» .entry))) (now (sets .entry)) depth r → Fitting (IsReport _≤_ r) most b) ⌝ }
+{
+    if REPORT_MOST <= most {
+        return true;
+    }
+    let n = report_length(c, depth, sets, out, moves, guards, stops, stop_guards);
+    n <= most
+}
+
+// How long the report is: a run without a room tells it.
+fn report_length(
+    c: Counts,
+    depth: usize,
+    sets: &[[u64; 16]],
+    out: &[[u64; 16]],
+    moves: &[[usize; 6]],
+    guards: &[[u64; 16]],
+    stops: &[[usize; 2]],
+    stop_guards: &[[u64; 16]],
+) -> usize
+    requires { ⌜ (min 64 (length (now sets)) ≤ length (now out)) × Outs (now moves) (now guards) (now sets) (min (min (min (c .moves) 256) (length (now moves))) (length (now guards))) (now out) ⌝ }
+    ensures { λ k. ⌜ ((s : List ℕ) (n : List (List ℕ)) (v : List ℕ) (r : Sheet) → Laid s c (tables n v (now (moves .entry)) (now (guards .entry)) (now (stops .entry)) (now («stop_guards» .entry))) (now (sets .entry)) depth r → Long (IsReport _≤_ r) k) ⌝ }
+{
+    let mut none = [0u8; 0];
+    put_report(
+        &mut none,
+        c,
+        depth,
+        sets,
+        out,
+        moves,
+        guards,
+        stops,
+        stop_guards,
+    )
 }
 
 // How long the clean sheet is: a run without a room tells it.
