@@ -4,7 +4,6 @@ ghost use mathlib.Core.Path.{_≡_};
 ghost use mathlib.Core.List.{List};
 ghost use Prim.Native.Nat.{ℕ, _*_, _%_, _≤_, _<_, min};
 ghost use lib.ListN.{length, replicate};
-ghost use Rattle.text.specs.Text.{limit};
 ghost use Rattle.refusals.specs.Refusal.{refusal};
 ghost use Rattle.sheet.specs.Sheet.{Sheet};
 ghost use Rattle.sheet.specs.Tables.{tables, blankTables, StandsFor};
@@ -430,17 +429,7 @@ fn lay_report(
     requires { ⌜ (min 64 (length (now sets)) ≤ length (now out)) × Outs (now moves) (now guards) (now sets) (min (min (min (c .moves) 256) (length (now moves))) (length (now guards))) (now out) ⌝ }
     ensures { λ a. ⌜ ((s : List ℕ) (n : List (List ℕ)) (v : List ℕ) (r : Sheet) → Laid s c (tables n v (now (moves .entry)) (now (guards .entry)) (now (stops .entry)) (now («stop_guards» .entry))) (now (sets .entry)) depth r → Filling (IsReport _≤_ r) (length (now (room .entry))) (now (room .entry)) (now (room .exit)) a) ⌝ }
 {
-    if !report_fits(
-        room.len(),
-        c,
-        depth,
-        sets,
-        out,
-        moves,
-        guards,
-        stops,
-        stop_guards,
-    ) {
+    if !report_fits(room, c, depth, sets, out, moves, guards, stops, stop_guards) {
         return refuse(11, 0);
     }
     let k = put_report(room, c, depth, sets, out, moves, guards, stops, stop_guards);
@@ -503,15 +492,14 @@ fn lay_both(
     requires { ⌜ (min 64 (length (now sets)) ≤ length (now out)) × Outs (now moves) (now guards) (now sets) (min (min (min (c .moves) 256) (length (now moves))) (length (now guards))) (now out) ⌝ }
     ensures { λ a. ⌜ ((r : Sheet) → Laid (now (text .entry)) c (tables (now (names .entry)) valid (now (moves .entry)) (now (guards .entry)) (now (stops .entry)) (now («stop_guards» .entry))) (now (sets .entry)) depth r → BothFilling r (now (room .entry)) (now (room .exit)) (now (second .entry)) (now (second .exit)) a) ⌝ }
 {
-    let most = room.len();
     let mut rows = [0u8; 256];
     let kept = order_moves(text, c.moves, moves, guards, sets, &mut rows);
     let long = clean_length(text, c, names, valid, moves, guards, sets, out, &rows, kept);
     if counts::at_most(second.len(), MOST_BYTES) < long {
-        let line = longer(most, c, depth, sets, out, moves, guards, stops, stop_guards);
+        let line = longer(room, c, depth, sets, out, moves, guards, stops, stop_guards);
         return refuse(11, line);
     }
-    if !report_fits(most, c, depth, sets, out, moves, guards, stops, stop_guards) {
+    if !report_fits(room, c, depth, sets, out, moves, guards, stops, stop_guards) {
         return refuse(11, 1);
     }
     let m = put_clean(
@@ -531,33 +519,9 @@ fn lay_both(
     Answers::Done(n, m)
 }
 
-// Of which room 11 speaks where the clean sheet is too long: of the report's, 1, if that is too long as
-// well.
-fn longer(
-    most: usize,
-    c: Counts,
-    depth: usize,
-    sets: &[[u64; 16]],
-    out: &[[u64; 16]],
-    moves: &[[usize; 6]],
-    guards: &[[u64; 16]],
-    stops: &[[usize; 2]],
-    stop_guards: &[[u64; 16]],
-) -> usize
-    requires { ⌜ most < limit ⌝ }
-    requires { ⌜ (min 64 (length (now sets)) ≤ length (now out)) × Outs (now moves) (now guards) (now sets) (min (min (min (c .moves) 256) (length (now moves))) (length (now guards))) (now out) ⌝ }
-    ensures { λ line. ⌜ ((s : List ℕ) (n : List (List ℕ)) (v : List ℕ) (r : Sheet) → Laid s c (tables n v (now (moves .entry)) (now (guards .entry)) (now (stops .entry)) (now («stop_guards» .entry))) (now (sets .entry)) depth r → Longer (IsReport _≤_ r) most line) ⌝ }
-{
-    let n = report_length(c, depth, sets, out, moves, guards, stops, stop_guards);
-    if most < n {
-        return 1;
-    }
-    2
-}
-
-// Whether the report has at most so many bytes. What no report exceeds needs no run.
+// Whether the report fits into the room, which stays as it is. What no report exceeds needs no run.
 fn report_fits(
-    most: usize,
+    room: &mut [u8],
     c: Counts,
     depth: usize,
     sets: &[[u64; 16]],
@@ -567,19 +531,31 @@ fn report_fits(
     stops: &[[usize; 2]],
     stop_guards: &[[u64; 16]],
 ) -> bool
-    requires { ⌜ most < limit ⌝ }
     requires { ⌜ (min 64 (length (now sets)) ≤ length (now out)) × Outs (now moves) (now guards) (now sets) (min (min (min (c .moves) 256) (length (now moves))) (length (now guards))) (now out) ⌝ }
-    ensures { λ b. ⌜ ((s : List ℕ) (n : List (List ℕ)) (v : List ℕ) (r : Sheet) → Laid s c (tables n v (now (moves .entry)) (now (guards .entry)) (now (stops .entry)) (now («stop_guards» .entry))) (now (sets .entry)) depth r → Fitting (IsReport _≤_ r) most b) ⌝ }
+    ensures { λ b. ⌜ (now (room .exit) ≡ now (room .entry)) × ((s : List ℕ) (n : List (List ℕ)) (v : List ℕ) (r : Sheet) → Laid s c (tables n v (now (moves .entry)) (now (guards .entry)) (now (stops .entry)) (now («stop_guards» .entry))) (now (sets .entry)) depth r → Fitting (IsReport _≤_ r) (length (now (room .entry))) b) ⌝ }
 {
-    if REPORT_MOST <= most {
+    if REPORT_MOST <= room.len() {
         return true;
     }
-    let n = report_length(c, depth, sets, out, moves, guards, stops, stop_guards);
-    n <= most
+    let mut none = [0u8; 0];
+    let n = put_report(
+        &mut none,
+        c,
+        depth,
+        sets,
+        out,
+        moves,
+        guards,
+        stops,
+        stop_guards,
+    );
+    n <= room.len()
 }
 
-// How long the report is: a run without a room tells it.
-fn report_length(
+// Of which room 11 speaks where the clean sheet is too long: of the report's, 1, if that is too long as
+// well. The room stays as it is.
+fn longer(
+    room: &mut [u8],
     c: Counts,
     depth: usize,
     sets: &[[u64; 16]],
@@ -590,11 +566,11 @@ fn report_length(
     stop_guards: &[[u64; 16]],
 ) -> usize
     requires { ⌜ (min 64 (length (now sets)) ≤ length (now out)) × Outs (now moves) (now guards) (now sets) (min (min (min (c .moves) 256) (length (now moves))) (length (now guards))) (now out) ⌝ }
-    ensures { λ k. ⌜ ((s : List ℕ) (n : List (List ℕ)) (v : List ℕ) (r : Sheet) → Laid s c (tables n v (now (moves .entry)) (now (guards .entry)) (now (stops .entry)) (now («stop_guards» .entry))) (now (sets .entry)) depth r → Long (IsReport _≤_ r) k) ⌝ }
+    ensures { λ line. ⌜ (now (room .exit) ≡ now (room .entry)) × ((s : List ℕ) (n : List (List ℕ)) (v : List ℕ) (r : Sheet) → Laid s c (tables n v (now (moves .entry)) (now (guards .entry)) (now (stops .entry)) (now («stop_guards» .entry))) (now (sets .entry)) depth r → Longer (IsReport _≤_ r) (length (now (room .entry))) line) ⌝ }
 {
-    let mut none = [0u8; 0];
-    put_report(
-        &mut none,
+    let mut no_room = [0u8; 0];
+    let n = put_report(
+        &mut no_room,
         c,
         depth,
         sets,
@@ -603,7 +579,11 @@ fn report_length(
         guards,
         stops,
         stop_guards,
-    )
+    );
+    if room.len() < n {
+        return 1;
+    }
+    2
 }
 
 // How long the clean sheet is: a run without a room tells it.

@@ -12,9 +12,11 @@ use Rattle.refusals.specs.Refusal.{refusal}
 use Rattle.sheet.specs.Sheet.{Sheet}
 use Rattle.sheet.specs.Reading.{kept, readSheet}
 use Rattle.sheet.proofs.Accepted.{accepted, kept-refused}
+use Rattle.sheet.proofs.Numbered.{kept-lines}
 use Rattle.sheet.proofs.ReadBack.{alike-names, alike-back}
 use Rattle.family.proofs.Meaning.{depth-small}
 use Rattle.reporting.specs.Report.{IsReport}
+use Rattle.reporting.proofs.Lengths.{report-short}
 use Rattle.normal.specs.Behaviour.{Same}
 use Rattle.normal.specs.Clean.{IsClean}
 use Rattle.normal.specs.Faults.{Faultless}
@@ -29,7 +31,7 @@ use Rattle.calls.specs.declared.Answers.{Answers}
 use Rattle.calls.specs.declared.Answers.the-variants as two
 use Rattle.calls.specs.Promise.{TooLong, ReportPromise, CleanPromise, BothPromise}
 use Rattle.calls.proofs.Promised.{kept-one, filled-fits, report-promise-determined, clean-promise-determined, both-promise-determined}
-use Rattle.demands.specs.Demands.{Determined, BothDetermined, BothAsSingle, Verdicts, DepthIsSmall, CleanKeepsTheMoves, CleanedKeepsTheMoves, CleanIsANormalForm, CleanIsClean, TwoRuns, CleanAgainSame, CleanReported}
+use Rattle.demands.specs.Demands.{Determined, BothDetermined, RoomEnough, BothAsSingle, Verdicts, DepthIsSmall, CleanKeepsTheMoves, CleanedKeepsTheMoves, CleanIsANormalForm, CleanIsClean, TwoRuns, CleanAgainSame, CleanReported}
 
 -- ---- demand 1
 
@@ -41,6 +43,11 @@ clean-determined = clean-promise-determined
 
 pub both-determined : BothDetermined
 both-determined = both-promise-determined
+
+pub room-enough : RoomEnough
+room-enough s room x q h (k, inl f) = f
+room-enough s room x q h (k, inr (r, e, inl z)) = absurd z
+room-enough s room x q h (k, inr (r, e, inr l)) = absurd (omega (arith, l .longer, report-short (accepted s e) (kept-lines s e) (l .is)))
 
 -- a text that is too long for one call is so for another, with the line that this one gives to 11
 too-long-at : (line : ℕ) {Is : List ℕ → Type 0} {most old : ℕ} {q : Refusal} → TooLong Is most old q → TooLong Is most line (refusal 11 line)

@@ -70,6 +70,10 @@ ElevenGiven =
     → ((a : Answer) → ReportPromise s [] x a → a ≡ one.Refused (refusal 11 0)) × ((a : Answer) → CleanPromise s [] x a → a ≡ one.Refused (refusal 11 0))
     × ((a : Answers) → BothPromise s [] x clean u a → a ≡ two.Refused (refusal 11 1))
 
+-- room-enough: no report has more than 9,545 bytes; in a room of so many `report` refuses nothing but what the table refuses.
+abbrev pub RoomEnough : Type 0
+RoomEnough = (s room x : List ℕ) (q : Refusal) → 9545 ≤ length room → ReportPromise s room x (one.Refused q) → readSheet s ≡ refused q
+
 -- report-cut, clean-cut, both-cut: of a longer input the first 65,537 bytes are enough, as the programs keep them.
 abbrev pub Cut : (List ℕ → List ℕ → List ℕ → Answer → Type 0) → Type 0
 Cut P = (s room x : List ℕ) (a : Answer) → P (take 65537 s) room x a ↔ P s room x a

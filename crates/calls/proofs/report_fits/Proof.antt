@@ -1,16 +1,16 @@
 -- `report_fits`: no report is so long, or a run without a room tells its length. Assumes nothing.
 use mathlib.Core.Path.{refl}
 use native.Mathlib.Omega.{arith}
-use Rattle.calls.proofs.Desk.{never-longer, told}
+use Rattle.calls.proofs.Desk.{for-report, outward, is-long, never-longer, told}
 use borrow.Author.Needs.{needs}
 use Rattle.calls.proofs.report_fits.Statement.{statement}
 use Rattle.calls.proofs.report_fits.Tie as tie
 
 returns : tie.Need-returns
-returns c = λ s n v r d. never-longer d (omega (arith, c .if1 .taken))
+returns c = (refl, λ s n v r d. never-longer d (omega (arith, c .if1 .taken)))
 
 returns-2 : tie.Need-returns-2
-returns-2 c = λ s n v r d. told _ (c .report-length .ensures s n v r d) (c .before .before .pre .0) refl
+returns-2 c = (refl, λ s n v r d. told _ (is-long (c .before .put-report .ensures r (for-report d) (outward d (c .before .before .before .before .before .pre .1)) (d .deep))) (omega (arith, c .before .before .before .before .before .good)) refl)
 
 pub report-fits-spec : {M : Type 1} → statement M
-report-fits-spec = tie.close (tie.spec returns (λ c κs. search needs) returns-2)
+report-fits-spec = tie.close (tie.spec returns (λ c. search needs) (λ c κs. search needs) returns-2)
