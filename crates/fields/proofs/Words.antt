@@ -9,6 +9,17 @@ use lib.Bits.{bitAnd, bitXor, and-block, xor-block, xor-lt, and-le-l, and-le-r, 
 use lib.Count.{trailingZeros, under}
 use Rattle.fields.specs.Words.{word, Digits, FirstOf}
 
+-- ---- equal numbers have equal bytes
+
+word-same : (n : ℕ) (f g : ℕ → ℕ) → ((k : ℕ) → f k < 256) → ((k : ℕ) → g k < 256) → word f n ≡ word g n → (k : ℕ) → k < n → f k ≡ g k
+word-same zero f g lf lg e k h = absurd (omega arith)
+word-same (suc n) f g lf lg e zero h = omega (arith, e, lf 0, lg 0)
+word-same (suc n) f g lf lg e (suc k) h =
+    word-same n (λ j. f (suc j)) (λ j. g (suc j)) (λ j. lf (suc j)) (λ j. lg (suc j)) (omega (arith, e, lf 0, lg 0)) k (omega arith)
+
+pub digits-same : {f g : ℕ → ℕ} {w v : ℕ} → Digits f w → Digits g v → w ≡ v → (k : ℕ) → k < 8 → f k ≡ g k
+digits-same {f} {g} d b e = word-same 8 f g (d .small) (b .small) (sym (d .whole) ∙ e ∙ b .whole)
+
 -- ---- the zeros below the lowest bit
 
 zeros-shifted : (j k a : ℕ) → trailingZeros (j + k) (a * 2 ^ j) ≡ j + trailingZeros k a

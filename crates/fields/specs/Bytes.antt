@@ -23,6 +23,12 @@ sameBytes [] (y ∷ ys) = false
 sameBytes (x ∷ xs) [] = false
 sameBytes (x ∷ xs) (y ∷ ys) = eqb x y && sameBytes xs ys
 
+-- how many of the first bytes two runs share
+unfoldable pub sharedBytes : List ℕ → List ℕ → ℕ
+sharedBytes [] ys = 0
+sharedBytes (x ∷ xs) [] = 0
+sharedBytes (x ∷ xs) (y ∷ ys) = cond (eqb x y) (suc (sharedBytes xs ys)) 0
+
 abbrev pub isDigit : ℕ → Bool
 isDigit b = leb 48 b && leb b 57
 

@@ -2,11 +2,11 @@
 // takes whole slices and asks nothing of its caller; none writes. What a field says is told in `values`,
 // and how a line is cut in `cutting`.
 ghost use mathlib.Core.Path.{_≡_};
-ghost use Prim.Native.Nat.{_+_, _/_, _≤_, _<_};
+ghost use Prim.Native.Nat.{_+_, _/_, _≤_, _<_, min};
 ghost use lib.Count.{trailingZeros};
 ghost use lib.ListN.{getD};
-ghost use Rattle.fields.specs.Bytes.{pieceOf, sameBytes, isLetter, isNameByte, FirstAt, RunEnd};
-ghost use Rattle.fields.specs.Words.{FirstOf, Digits};
+ghost use Rattle.fields.specs.Bytes.{pieceOf, sameBytes, sharedBytes, isLetter, isNameByte, FirstAt, RunEnd};
+ghost use Rattle.fields.specs.Words.{FirstOf, Digits, BeginAlike};
 
 // A number that was read, or that the bytes are none.
 pub enum Number {
@@ -125,6 +125,47 @@ pub fn same_bytes(x: &[u8], y: &[u8]) -> bool
         i += 1;
     }
     true
+}
+
+// How many of the first bytes x and y share: looked at in eights, and then one by one.
+pub fn shared(x: &[u8], y: &[u8]) -> usize
+    ensures { λ r. ⌜ r ≡ sharedBytes (now (x .entry)) (now (y .entry)) ⌝ }
+{
+    let most = shorter(x.len(), y.len());
+    let mut n = eights(x, y);
+    while n < most {
+        if x[n] != y[n] {
+            return n;
+        }
+        n += 1;
+    }
+    n
+}
+
+// How many of the first bytes of x and y are alike in whole eights: no more than they share. Nothing hangs on it
+// but speed.
+fn eights(x: &[u8], y: &[u8]) -> usize
+    ensures { λ r. ⌜ BeginAlike (now (x .entry)) (now (y .entry)) r ⌝ }
+{
+    let most = shorter(x.len(), y.len());
+    let mut k = 0;
+    while 8 <= most - k {
+        if eight(x, k) != eight(y, k) {
+            return k;
+        }
+        k += 8;
+    }
+    k
+}
+
+// The smaller of two lengths.
+fn shorter(a: usize, b: usize) -> usize
+    ensures { λ r. ⌜ r ≡ min a b ⌝ }
+{
+    if b < a {
+        return b;
+    }
+    a
 }
 
 pub fn is_letter(b: u8) -> bool

@@ -1,17 +1,19 @@
--- From places to lists: what is left of two lists decides which is before the other; halving finds the place of a row; and what stands in the array in
--- front of a place, then what is carried on and the rest, stays the same from turn to turn. Assumes nothing.
+-- From places to lists: the first place at which two lists differ decides which is before the other; halving finds the place of a row; and what stands in
+-- the array in front of a place, then what is carried on and the rest, stays the same from turn to turn. Assumes nothing.
 use mathlib.Core.Path.{_≡_, refl, sym, ap, _∙_}
 use mathlib.Core.Bool.{Bool, true, false, or-false}
 use mathlib.Core.List.{List, [], _∷_, _++_, append-assoc}
 use mathlib.Core.Logic.{_⊎_, inl, inr, ⊎-elim}
-use Prim.Native.Nat.{ℕ, _+_, _≤_, _<_}
+use Prim.Native.Nat.{ℕ, suc, _+_, _≤_, _<_}
 use native.Mathlib.Numerals.{add-one}
 use native.Mathlib.Omega.{arith}
-use borrow.Author.Tests.{ltb-true, ltb-false, ne-eqb}
+use borrow.Author.Tests.{ne-eqb}
 use lib.Dec.{ltb}
 use lib.ListN.{length, getD, take, drop, set, length-take, length-set, drop-of-length-le}
 use lib.Seq.{take-suc-set, take-set-lt, drop-set-lt, take-take, getD-take, set-split, length-take-le}
+use Rattle.fields.specs.Bytes.{sharedBytes}
 use Rattle.fields.proofs.Parts.{headed}
+use Rattle.fields.proofs.Same.{shared-rest, shared-other, shared-both}
 use Rattle.ordering.specs.Ordering.{lessBytes, insertBy}
 use Rattle.ordering.specs.Halving.{Level, Between}
 use Rattle.ordering.proofs.Laws.{never, compared, less-rest, less-near, insert-at}
@@ -30,24 +32,54 @@ less-far x y z h g = decided (lessBytes x z) refl
     decided true e = absurd (never (less-near x z y e g) h)
     decided false e = e
 
-module _ (x y : List ℕ) (i : ℕ) where
-  pub less-more : i < length x → i < length y → getD x i 0 ≡ getD y i 0 → lessBytes (drop i x) (drop i y) ≡ lessBytes (drop (i + 1) x) (drop (i + 1) y)
-  less-more h l e = rw (headed x i h, headed y i l) (less-rest (getD x i 0) (getD y i 0) (drop (i + 1) x) (drop (i + 1) y) e)
+-- r is whether x comes before y, if n is how many bytes both share: it is told by which of them ends there, and else by the bytes there
+record Decided (x y : List ℕ) (n : ℕ) (r : Bool) : Type 0 where
+  short : length y ≤ n → false ≡ r
+  long : length x ≤ n → n < length y → true ≡ r
+  stop : n < length x → n < length y → ltb (getD x n 0) (getD y n 0) ≡ r
 
-  pub less-stop : i < length x → i < length y → (getD x i 0 ≡ getD y i 0 → ⊥) → lessBytes (drop i x) (drop i y) ≡ ltb (getD x i 0) (getD y i 0)
-  less-stop h l f = rw (headed x i h, headed y i l) (less-head (getD x i 0) (getD y i 0) (drop (i + 1) x) (drop (i + 1) y) f)
+decided-more : (a b : ℕ) {x y : List ℕ} {n : ℕ} {r : Bool} → Decided x y n r → Decided (a ∷ x) (b ∷ y) (suc n) r
+decided-more a b d = record {
+  short = λ h. d .short (omega arith);
+  long = λ h l. d .long (omega arith) (omega arith);
+  stop = λ h l. d .stop (omega arith) (omega arith);
+}
 
-  pub less-short : i < length x → length y ≤ i → lessBytes (drop i x) (drop i y) ≡ false
-  unfolding lessBytes
-  less-short h l = rw (headed x i h, drop-of-length-le y l)
+decided-head : (a b : ℕ) (x y : List ℕ) → (a ≡ b → ⊥) → Decided (a ∷ x) (b ∷ y) (sharedBytes (a ∷ x) (b ∷ y)) (lessBytes (a ∷ x) (b ∷ y))
+decided-head a b x y f = rw (shared-other a b x y f) (record {
+  short = λ h. absurd (omega arith);
+  long = λ h l. absurd (omega arith);
+  stop = λ h l. sym (less-head a b x y f);
+})
 
-  pub less-end : length x ≤ i → i ≤ length x → i ≤ length y → lessBytes (drop i x) (drop i y) ≡ ltb (length x) (length y)
-  unfolding lessBytes
-  less-end h g l = rw (drop-of-length-le x h) (go (ltb (length x) (length y)) refl)
-    where
-      go : (t : Bool) → ltb (length x) (length y) ≡ t → lessBytes [] (drop i y) ≡ t
-      go true e = rw (headed y i (omega (arith, ltb-true (length x) (length y) e)))
-      go false e = let z : length y ≤ i = omega (arith, ltb-false (length x) (length y) e) in rw (drop-of-length-le y z)
+decided : (x y : List ℕ) → Decided x y (sharedBytes x y) (lessBytes x y)
+unfolding lessBytes
+decided [] [] = record { short = λ h. refl; long = λ h l. absurd (omega arith); stop = λ h l. absurd (omega arith) }
+decided [] (b ∷ y) = record {
+  short = λ h. absurd (omega (arith, shared-both [] (b ∷ y)));
+  long = λ h l. refl;
+  stop = λ h l. absurd (omega arith);
+}
+decided (a ∷ x) [] = record {
+  short = λ h. refl;
+  long = λ h l. absurd (omega arith);
+  stop = λ h l. absurd (omega arith);
+}
+decided (a ∷ x) (b ∷ y) =
+    ⊎-elim
+    (λ l. decided-head a b x y (λ e. omega arith))
+    (λ g. ⊎-elim (λ e. rw (shared-rest a b x y e, less-rest a b x y e) (decided-more a b (decided x y))) (λ l. decided-head a b x y (λ e. omega arith)) g)
+    (compared a b)
+
+module _ (x y : List ℕ) {n : ℕ} (e : n ≡ sharedBytes x y) where
+  pub less-short : length y ≤ n → false ≡ lessBytes x y
+  less-short h = decided x y .short (omega arith)
+
+  pub less-long : length x ≤ n → n < length y → true ≡ lessBytes x y
+  less-long h l = decided x y .long (omega arith) (omega arith)
+
+  pub less-stop : n < length x → n < length y → ltb (getD x n 0) (getD y n 0) ≡ lessBytes x y
+  less-stop h l = rw e (decided x y .stop (omega arith) (omega arith))
 
 -- by from, then by to, then by action
 module _ (a b : ℕ) where

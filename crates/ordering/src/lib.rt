@@ -148,19 +148,16 @@ fn before(text: &[u8], a: [usize; 6], b: [usize; 6]) -> bool
     )
 }
 
-// Whether x comes before y by bytes.
+// Whether x comes before y by bytes: the first place behind what both share decides.
 fn less(x: &[u8], y: &[u8]) -> bool
     ensures { λ r. ⌜ r ≡ lessBytes (now (x .entry)) (now (y .entry)) ⌝ }
 {
-    let mut i = 0;
-    while i < x.len() {
-        if y.len() <= i {
-            return false;
-        }
-        if x[i] != y[i] {
-            return x[i] < y[i];
-        }
-        i += 1;
+    let n = fields::shared(x, y);
+    if y.len() <= n {
+        return false;
     }
-    x.len() < y.len()
+    if x.len() <= n {
+        return true;
+    }
+    x[n] < y[n]
 }

@@ -18,11 +18,12 @@ use Rattle.text.proofs.Laws.{wrote-past}
 use Rattle.guards.specs.Guard.{Guard, print}
 use Rattle.guards.specs.Reading.{namesOf}
 use Rattle.guards.proofs.Finding.{rowName}
-use Rattle.splitting.specs.Splitting.{inSet, guardOf, Within, Tells, Met, Further, leafText}
+use Rattle.splitting.specs.Splitting.{inSet, guardOf, Within, Tells, Ends, Met, Further, leafText}
 use Rattle.splitting.proofs.Laws.{guard-ext}
 use Rattle.splitting.proofs.Marks.{two-pow}
 use Rattle.splitting.proofs.Halving.{allowed, split-guard, skip-guard}
 use Rattle.splitting.proofs.Returns.{guardText, leaf-text, choice-text}
+use Rattle.splitting.proofs.Ends.{blank-mark}
 use Rattle.splitting.proofs.Choices.{count-alike, word-bit}
 
 -- ---- sums
@@ -124,17 +125,17 @@ module _ (n : ℕ) (text : List ℕ) (rows : List (List ℕ)) where
 
 -- ---- the count
 
--- the features before i are counted: m has the choices met, and what these weigh is all that the total lacks
-pub record Counted (n : ℕ) (text : List ℕ) (rows : List (List ℕ)) (t m : List ℕ) (i total : ℕ) : Type 0 where
-  pub most : i ≤ n
+-- the features before i, of b behind which none is marked, are counted: m has the choices met, and what these weigh is all that the total lacks
+pub record Counted (b : ℕ) (text : List ℕ) (rows : List (List ℕ)) (t m : List ℕ) (i total : ℕ) : Type 0 where
+  pub most : i ≤ b
   pub met : Met i t m
   pub small : total ≤ 69 * countTo m (2 ^ i)
-  pub sum : (set : List ℕ) → Within n set → Tells n set t
+  pub sum : (n : ℕ) (set : List ℕ) → Ends b n set t
       → textLength n text rows set 0 0 + countTo m (2 ^ i) ≡ total + weight (has m) (textLength n text rows set i) (2 ^ i)
 
-pub counted-none : (n : ℕ) (text : List ℕ) (rows : List (List ℕ)) (t : List ℕ) → Counted n text rows t (set (replicate 16 0) 0 1) 0 1
+pub counted-none : (b : ℕ) (text : List ℕ) (rows : List (List ℕ)) (t : List ℕ) → Counted b text rows t (set (replicate 16 0) 0 1) 0 1
 unfolding weight countTo has
-counted-none n text rows t = record {
+counted-none b text rows t = record {
   most = omega arith;
   met = record {
     long = refl;
@@ -143,11 +144,11 @@ counted-none n text rows t = record {
     blank = λ p le lp. word-bit (set (replicate 16 0) 0 1) p lp ∙ past-bit 1 p le 1 (omega arith);
   };
   small = omega arith;
-  sum = λ s within table. omega arith;
+  sum = λ n s ends. omega arith;
 }
 
-module _ {n i total r : ℕ} {text : List ℕ} {rows : List (List ℕ)} {t m o : List ℕ} (counted : Counted n text rows t m i total)
-    (step : Met i t m → Further i t m o r) (left : i < n) (small : n ≤ 10) where
+module _ {b i total r : ℕ} {text : List ℕ} {rows : List (List ℕ)} {t m o : List ℕ} (counted : Counted b text rows t m i total)
+    (step : Met i t m → Further i t m o r) (left : i < b) where
   further : Further i t m o r
   further = step (counted .met)
 
@@ -158,9 +159,9 @@ module _ {n i total r : ℕ} {text : List ℕ} {rows : List (List ℕ)} {t m o :
     total-small : total + r * (length name + 5) ≤ 69 * countTo o (2 ^ (i + 1))
     total-small = omega (arith, counted .small, further .more, kept, mul-le-mul-left {m = length name + 5} {n = 69} r (omega arith))
 
-    moved : (s : List ℕ) → Within n s → Tells n s t
+    moved : (n : ℕ) (s : List ℕ) → Ends b n s t
         → weight (has m) (textLength n text rows s i) (2 ^ i) ≡ weight (has o) (textLength n text rows s (i + 1)) (2 ^ (i + 1)) + (4 + length name) * r
-    moved s within table =
+    moved n s ends =
         let h : ℕ = 2 ^ i in
         let f : ℕ → ℕ = textLength n text rows s i in
         let g : ℕ → ℕ = textLength n text rows s (suc i) in
@@ -169,21 +170,22 @@ module _ {n i total r : ℕ} {text : List ℕ} {rows : List (List ℕ)} {t m o :
         let more : countTo o (2 ^ suc i) ≡ countTo o h + r = rw add-one at (further .more) in
         let all : weight (has o) f h + weight (has o) g h + a * countTo o h ≡ weight (has o) g h + weight (has o) g (h + h) + a * countTo o (h + h) =
         weight-split o f g a h h (λ c lc.
-        rw named (choice-weighs n text rows small within table left lc o (further .met .split i c (omega arith) lc))) in
+        rw named (choice-weighs n text rows (ends .small) (ends .within) (ends .tells) (omega (arith, ends .most)) lc o
+        (further .met .split i c (omega arith) lc))) in
         let same : weight (has m) f h ≡ weight (has o) f h = weight-as (has m) (has o) f h (λ p lp. sym (further .kept p lp)) in
         rw add-one (omega (arith, same, rw (d, more) at all, mul-add a (countTo o h) r))
 
-    pub counted-more : {sum : ℕ} → sum ≡ total + r * (length name + 5) → Counted n text rows t o (i + 1) sum
+    pub counted-more : {sum : ℕ} → sum ≡ total + r * (length name + 5) → Counted b text rows t o (i + 1) sum
     counted-more told = record {
       most = omega arith;
       met = further .met;
       small = omega (arith, total-small);
-      sum = λ s within table.
+      sum = λ n s ends.
           let a : ℕ = length name in
           omega (
             arith,
-            counted .sum s within table,
-            moved s within table,
+            counted .sum n s ends,
+            moved n s ends,
             further .more,
             kept,
             mul-add r a 5,
@@ -193,27 +195,38 @@ module _ {n i total r : ℕ} {text : List ℕ} {rows : List (List ℕ)} {t m o :
     }
 
 -- there are not more choices than that
-pub counted-few : {n i total : ℕ} {text : List ℕ} {rows : List (List ℕ)} {t m : List ℕ} → Counted n text rows t m i total → n ≤ 10 → total ≤ 70656
+pub counted-few : {b i total : ℕ} {text : List ℕ} {rows : List (List ℕ)} {t m : List ℕ} → Counted b text rows t m i total → b ≤ 10 → total ≤ 70656
 counted-few {i = i} {m = m} counted small =
     omega (arith, counted .small, count-le m (2 ^ i), pow-mono {i = i} {j = 10} (omega (arith, counted .most)))
 
+-- no feature from b on is marked: what is left is a leaf
+past-length : {b n : ℕ} {s t : List ℕ} (text : List ℕ) (rows : List (List ℕ)) → Ends b n s t
+    → (d i c : ℕ) → b ≤ i → i + d ≡ n → c < 2 ^ i → textLength n text rows s i c ≡ 1
+past-length {b} {n} {s} {t} text rows ends zero i c le e lc =
+    let z : i ≡ n = omega arith in
+    rw z (last-length n text rows s c)
+past-length {b} {n} {s} {t} text rows ends (suc d) i c le e lc =
+    skip-length n text rows (ends .small) (ends .within) (ends .tells) {i = i} {c = c} (omega arith) lc (blank-mark ends le (omega arith) lc)
+    ∙ past-length text rows ends d (suc i) c (omega arith) (omega arith) (omega (arith, two-pow i))
+
 -- all features are counted
-pub counted-all : {n i total : ℕ} {text : List ℕ} {rows : List (List ℕ)} {t m : List ℕ} → Counted n text rows t m i total → n ≤ i
-    → (s : List ℕ) → Within n s → Tells n s t → total ≡ length (print (guardOf 0 n (inSet s)) (namesOf text rows n) [])
-counted-all {n} {i} {total} {text} {rows} {t} {m} counted le s within table =
-    let e : i ≡ n = omega (arith, counted .most) in
-    let sum : textLength n text rows s 0 0 + countTo m (2 ^ n) ≡ total + weight (has m) (textLength n text rows s n) (2 ^ n) =
-    rw e at (counted .sum s within table) in
-    let ones : weight (has m) (textLength n text rows s n) (2 ^ n) ≡ countTo m (2 ^ n) =
-    weight-ones m (textLength n text rows s n) (2 ^ n) (λ c lc. last-length n text rows s c) in
+pub counted-all : {b i total : ℕ} {text : List ℕ} {rows : List (List ℕ)} {t m : List ℕ} → Counted b text rows t m i total → b ≤ i
+    → (n : ℕ) (s : List ℕ) → Ends b n s t → total ≡ length (print (guardOf 0 n (inSet s)) (namesOf text rows n) [])
+counted-all {b} {i} {total} {text} {rows} {t} {m} counted le n s ends =
+    let e : i ≡ b = omega (arith, counted .most) in
+    let f : b + (n - b) ≡ n = omega (arith, ends .most) in
+    let sum : textLength n text rows s 0 0 + countTo m (2 ^ b) ≡ total + weight (has m) (textLength n text rows s b) (2 ^ b) =
+    rw e at (counted .sum n s ends) in
+    let ones : weight (has m) (textLength n text rows s b) (2 ^ b) ≡ countTo m (2 ^ b) =
+    weight-ones m (textLength n text rows s b) (2 ^ b) (λ c lc. past-length text rows ends (n - b) b c (omega arith) f lc) in
     omega (arith, sum, ones, first-length n text rows s)
 
 -- ---- what the return owes where the room is full
 
 -- nothing is laid, and the next place is behind as many bytes as were counted
-pub laid-counted : {l : List ℕ} {at r long n : ℕ} (text : List ℕ) (rows : List (List ℕ)) {t s : List ℕ}
-    → (0 < long → (s : List ℕ) → Within n s → Tells n s t → long ≡ length (print (guardOf 0 n (inSet s)) (namesOf text rows n) []))
-    → r ≡ behind at long → 0 < long → length l ≤ at → length l ≤ limit → Within n s → Tells n s t
+pub laid-counted : {l : List ℕ} {at r long b n : ℕ} (text : List ℕ) (rows : List (List ℕ)) {t s : List ℕ}
+    → (0 < long → (n : ℕ) (s : List ℕ) → Ends b n s t → long ≡ length (print (guardOf 0 n (inSet s)) (namesOf text rows n) []))
+    → r ≡ behind at long → 0 < long → length l ≤ at → length l ≤ limit → Ends b n s t
     → Wrote l at (guardText n 0 0 s (namesOf text rows n)) l r
-laid-counted {at = at} {n = n} text rows {s = s} counted place some full short within table =
-    wrote-past short (place ∙ ap (behind at) (counted some s within table ∙ sym (first-length n text rows s))) full
+laid-counted {at = at} {n = n} text rows {s = s} counted place some full short ends =
+    wrote-past short (place ∙ ap (behind at) (counted some n s ends ∙ sym (first-length n text rows s))) full

@@ -18,7 +18,7 @@ use lib.Seq.{getD-set-same, getD-set-other}
 use Rattle.products.specs.Sets.{bit, has}
 use Rattle.products.proofs.Bits.{bit-or, bit-xor, zero-bit}
 use Rattle.products.proofs.Laws.{has-at}
-use Rattle.splitting.specs.Splitting.{inSet, alike, all, freeOf, Within, Tells, Word, Level, First}
+use Rattle.splitting.specs.Splitting.{inSet, alike, all, freeOf, Word, Level, First, Plain}
 use Rattle.splitting.proofs.Laws.{bool-ext, alike-eq, eq-alike, all-at, all-true, all-ext}
 
 -- ---- numbers
@@ -73,7 +73,7 @@ clear-xor x y k =
     (λ e. eq-eqb ((bit x k + bit y k) % 2) 0 (omega (arith, eqb-true (bit x k) (bit y k) e)))
 
 -- membership is 0 or 1, so a test tells it
-told : (a b : ℕ) → a ≤ 1 → b ≤ 1 → eqb a 1 ≡ eqb b 1 → a ≡ b
+pub told : (a b : ℕ) → a ≤ 1 → b ≤ 1 → eqb a 1 ≡ eqb b 1 → a ≡ b
 told a b la lb e = go (eqb b 1) refl
   where
     go : (t : Bool) → eqb b 1 ≡ t → a ≡ b
@@ -264,23 +264,23 @@ across-more {s} {i} {r} {w} h li lw = record {
 pub across-all : {s : List ℕ} {i r w : ℕ} → Across s i r w → 16 ≤ w → (k : ℕ) → 2 ^ i + k < 64 → clear r k ≡ all (near s i k) 16
 across-all {s} {i} {r} {w} h le k l = let e : w ≡ 16 = omega (arith, h .most) in rw e at (h .bits k)
 
--- the products of six features are all in word 0: the bits of the other words are 0
-bit-past : {n : ℕ} {s : List ℕ} → Within n s → n ≤ 6 → (w k : ℕ) → 0 < w → w < 16 → k < 64 → bit (getD s w 0) k ≡ 0
-bit-past {n} {s} h ln w k le lw lk =
-    sym (has-at s w k lk) ∙ h .few (w * 64 + k) (omega arith) (omega (arith, pow-mono {i = n} {j = 6} ln))
-
--- so the first word tells of all
-pub across-first : {n i : ℕ} {s : List ℕ} → Within n s → n ≤ 6 → i < 6 → (k : ℕ) → 2 ^ i + k < 64
+-- where the first word stands for all, it tells of all
+pub across-first : {m i : ℕ} {s : List ℕ} → Plain m s → m ≤ 6 → i < 6 → (k : ℕ) → 2 ^ i + k < 64
     → clear (bitXor (getD s 0 0) (getD s 0 0 / 2 ^ step i)) k ≡ all (near s i k) 16
-across-first {n} {i} {s} h ln li k lk =
+across-first {m} {i} {s} h lm li k lk =
     near-bit s i 0 k li
-    ∙ bool-ext (near s i k 0) (all (near s i k) 16) (λ e. all-true (near s i k) 16 (go e)) (λ e. all-at (near s i k) 16 e 0 (omega arith))
+    ∙ bool-ext (near s i k 0) (all (near s i k) 16) (λ e. all-true (near s i k) 16 (λ w l. go e w l)) (λ e. all-at (near s i k) 16 e 0 (omega arith))
   where
+    first-bit : (j : ℕ) → j < 64 → has s j ≡ bit (getD s 0 0) j
+    first-bit j lj = let e : j ≡ 0 * 64 + j = omega arith in ap (has s) e ∙ has-at s 0 j lj
+
     go : near s i k 0 ≡ true → (w : ℕ) → w < 16 → near s i k w ≡ true
-    go e zero l = e
-    go e (suc w) l =
-        eq-eqb (bit (getD s (suc w) 0) k) (bit (getD s (suc w) 0) (2 ^ i + k))
-        (bit-past h ln (suc w) k (omega arith) l (omega arith) ∙ sym (bit-past h ln (suc w) (2 ^ i + k) (omega arith) l lk))
+    go e w l =
+        let lower : k < 64 = omega arith in
+        let one : has s k ≡ has s (2 ^ i + k) =
+        first-bit k lower ∙ eqb-true (bit (getD s 0 0) k) (bit (getD s 0 0) (2 ^ i + k)) e ∙ sym (first-bit (2 ^ i + k) lk) in
+        eq-eqb (bit (getD s w 0) k) (bit (getD s w 0) (2 ^ i + k))
+        (sym (has-at s w k lower) ∙ h .alike lm w k (2 ^ i + k) l lower lk one ∙ has-at s w (2 ^ i + k) lk)
 
 abbrev nearAt : List ℕ → ℕ → ℕ → Bool
 nearAt s i p = near s i (p % 64) (p / 64)
@@ -440,37 +440,31 @@ told-first {s} {a} {b} {c} {d} {e} {f} la lb lc ld le lf =
         go (yes h) = h
         go (no h) = absurd (omega (arith, pow-mono {i = 6} {j = i} (omega arith)))
 
--- ---- the table
+-- ---- the words behind the first
 
--- the first w words of the table are there
+-- the words of the table from 1 on, and before w, are there
 pub record Made (s t : List ℕ) (w : ℕ) : Type 0 where
+  pub least : 1 ≤ w
   pub most : w ≤ 16
   pub long : length t ≡ 16
-  pub words : (v : ℕ) → v < w → Word s v (getD t v 0)
+  pub words : (v : ℕ) → 1 ≤ v → v < w → Word s v (getD t v 0)
+
+pub made-none : (s t : List ℕ) → length t ≡ 16 → Made s t 1
+made-none s t long = record { least = omega arith; most = omega arith; long = long; words = λ v a l. absurd (omega arith) }
 
 pub made-more : {s t : List ℕ} {w x : ℕ} → Made s t w → w < 16 → Word s w x → Made s (set t w x) (w + 1)
 made-more {s} {t} {w} {x} h lw e = record {
+  least = omega arith;
   most = omega arith;
   long = simp length-set (h .long);
-  words =
-      below-more (λ v. Word s v (getD (set t w x) v 0)) w
-      (λ v lv. rw (getD-set-other t w v x 0 (omega arith)) (h .words v lv))
-      (rw (getD-set-same t w x 0 (omega (arith, h .long))) e);
+  words = λ v a l. go v a l (decLt v w);
 }
-
-pub made-first : {s : List ℕ} {x : ℕ} (t : List ℕ) → length t ≡ 16 → Word s 0 x → Made s (set t 0 x) 1
-made-first {s} t long h =
-    made-more {t = t} (record { most = omega arith; long = long; words = below-none (λ v. Word s v (getD t v 0)) }) (omega arith) h
-
--- all words in which the first n features have bits
-pub made-all : {s t : List ℕ} {w : ℕ} (n : ℕ) → Made s t w → 2 ^ n ≤ w * 64 → Tells n s t
-unfolding has
-made-all {s} {t} {w} n h le = record {
-  tells = λ i c li lc.
-      let b : 2 ^ i + c < w * 64 = omega (arith, two-pow i, pow-mono {i = suc i} {j = n} (omega arith)) in
-      let p = 2 ^ i + c in
-      h .words (p / 64) (omega arith) .tells i c (p % 64) lc (omega arith) (omega arith);
-}
+  where
+    go : (v : ℕ) → 1 ≤ v → v < w + 1 → Dec (v < w) → Word s v (getD (set t w x) v 0)
+    go v a l (yes lt) = rw (getD-set-other t w v x 0 (omega arith)) (h .words v a lt)
+    go v a l (no ge) =
+        let q : v ≡ w = omega arith in
+        rw (q, getD-set-same t w x 0 (omega (arith, h .long))) e
 
 -- ---- the first feature that the table marks
 

@@ -5,6 +5,7 @@ use mathlib.Core.Bool.{Bool, true, false, cond}
 use mathlib.Core.List.{List, [], _∷_, _++_, append-assoc}
 use Prim.Native.Nat.{ℕ, zero, suc, _+_, _-_, _*_, _^_, _≤_, _<_, min}
 use native.Mathlib.Omega.{arith}
+use native.Mathlib.Decide.{decLt}
 use native.Mathlib.Numerals.{add-one}
 use native.Mathlib.Nat.{zero-mul}
 use borrow.Author.Tests.{lt-ltb, le-ltb, eqb-true, eqb-false}
@@ -20,10 +21,11 @@ use Rattle.fields.proofs.Parts.{part-rest}
 use Rattle.guards.specs.Guard.{Operator, Guard, Parts, never, always, feature, neg, chain, choice, one, more, nameOf, byteOf, print, printParts}
 use Rattle.guards.specs.Reading.{namesOf}
 use Rattle.guards.proofs.Finding.{rowName, names-length}
-use Rattle.splitting.specs.Splitting.{inSet, guardOf, Within, Tells, First, leafText}
+use Rattle.splitting.specs.Splitting.{inSet, guardOf, Within, First, Ends, leafText}
 use Rattle.splitting.proofs.Laws.{guard-ext}
 use Rattle.splitting.proofs.Marks.{two-pow, step, step-is}
 use Rattle.splitting.proofs.Halving.{allowed, split-guard, first-guard}
+use Rattle.splitting.proofs.Ends.{blank-mark}
 
 -- ---- texts
 
@@ -86,19 +88,28 @@ pub anew : {l l′ : List ℕ} {at r : ℕ} (g : Guard) (text : List ℕ) (rows 
 unfolding part
 anew g text rows n w = let e : take (length text - 0) text ≡ text = part-rest text 0 in rw e at w
 
+-- what is not marked before m is marked nowhere
+none-left : {m n i j c : ℕ} {set t : List ℕ} → Ends m n set t → First t m i c j → m ≤ j → c < 2 ^ i → First t n i c n
+none-left {m} {n} {i} {j} {c} {set} {t} ends first none lc = record { passed = λ k a l. go k a l (decLt k m); marked = λ l. absurd (omega arith) }
+  where
+    go : (k : ℕ) → i ≤ k → k < n → Dec (k < m) → inSet t (2 ^ k + c) ≡ false
+    go k a l (yes h) = first .passed k a (omega arith)
+    go k a l (no h) = blank-mark ends (omega arith) l (omega (arith, pow-mono {i = i} {j = k} a))
+
 -- no feature is left on which the set depends
-pub laid-leaf : {l l′ : List ℕ} {at r n i j c : ℕ} {b : Bool} {set t : List ℕ} (names : List (List ℕ))
-    → Wrote l at (leafText b) l′ r → b ≡ inSet set c → First t n i c j
-    → n ≤ 10 → i ≤ j → j ≤ n → n ≤ j → c < 2 ^ i → Within n set → Tells n set t → Wrote l at (guardText n i c set names) l′ r
+pub laid-leaf : {l l′ : List ℕ} {at r m n i j c : ℕ} {b : Bool} {set t : List ℕ} (names : List (List ℕ))
+    → Wrote l at (leafText b) l′ r → b ≡ inSet set c → First t m i c j
+    → m ≤ j → i ≤ m → c < 2 ^ i → Ends m n set t → Wrote l at (guardText n i c set names) l′ r
 unfolding guardOf
-laid-leaf {n = n} {i} {j} {c} {b} {set} {t} names w told first small le lj none lc within table =
-    let z : n - j ≡ 0 = omega arith in
-    let o : c + 0 * 2 ^ j ≡ c = omega (arith, zero-mul (2 ^ j)) in
-    let g : guardText n i c set names ≡ guardText n j c set names =
-    ap (λ (g : Guard). print g names []) (first-guard small within table first le lj lc) in
-    let e : guardText n j c set names ≡ leafText b =
-    ap (λ (k : ℕ). print (guardOf j k (λ q. inSet set (c + q * 2 ^ j))) names []) z
-    ∙ leaf-text (inSet set (c + 0 * 2 ^ j)) names
+laid-leaf {n = n} {i} {j} {c} {b} {set} {t} names w told first none li lc ends =
+    let z : n - n ≡ 0 = omega arith in
+    let o : c + 0 * 2 ^ n ≡ c = omega (arith, zero-mul (2 ^ n)) in
+    let g : guardText n i c set names ≡ guardText n n c set names =
+    ap (λ (g : Guard). print g names [])
+    (first-guard (ends .small) (ends .within) (ends .tells) (none-left ends first none lc) (omega (arith, ends .most)) (omega arith) lc) in
+    let e : guardText n n c set names ≡ leafText b =
+    ap (λ (k : ℕ). print (guardOf n k (λ q. inSet set (c + q * 2 ^ n))) names []) z
+    ∙ leaf-text (inSet set (c + 0 * 2 ^ n)) names
     ∙ ap (λ (x : ℕ). leafText (inSet set x)) o
     ∙ ap leafText (sym told) in
     rw (g, e) w
@@ -112,23 +123,28 @@ choice-text text rows n i g k left =
     rw (name-row text rows n i left, ← print-before k names [] (41 ∷ []), ← print-before g names [] (58 ∷ print k names (41 ∷ [])))
 
 -- the set is split on feature j: `(`, the feature's name, `?`, one half, `:`, the other, `)`
-pub laid-split : {l₀ l₁ l₂ l₃ l₄ l₅ l₆ l₇ piece : List ℕ} {at a b e d g f r n i j c : ℕ} {set t : List ℕ} (text : List ℕ) (rows : List (List ℕ))
+pub laid-split : {l₀ l₁ l₂ l₃ l₄ l₅ l₆ l₇ piece : List ℕ} {at a b e d g f r m n i j c : ℕ} {set t : List ℕ} (text : List ℕ) (rows : List (List ℕ))
     → Wrote l₀ at (40 ∷ []) l₁ a → piece ≡ rowName text rows j → Wrote l₁ a piece l₂ b → Wrote l₂ b (63 ∷ []) l₃ e
-    → (Within n set → Tells n set t → Wrote l₃ e (guardText n (j + 1) (c + step j) set (namesOf text rows n)) l₄ d) → Wrote l₄ d (58 ∷ []) l₅ g
-    → (Within n set → Tells n set t → Wrote l₅ g (guardText n (j + 1) c set (namesOf text rows n)) l₆ f) → Wrote l₆ f (41 ∷ []) l₇ r
-    → First t n i c j → n ≤ 10 → i ≤ j → j < n → c < 2 ^ i → Within n set → Tells n set t
+    → ((n : ℕ) → Ends m n set t → Wrote l₃ e (guardText n (j + 1) (c + step j) set (namesOf text rows n)) l₄ d) → Wrote l₄ d (58 ∷ []) l₅ g
+    → ((n : ℕ) → Ends m n set t → Wrote l₅ g (guardText n (j + 1) c set (namesOf text rows n)) l₆ f) → Wrote l₆ f (41 ∷ []) l₇ r
+    → First t m i c j → i ≤ j → j < m → c < 2 ^ i → Ends m n set t
     → Wrote l₀ at (guardText n i c set (namesOf text rows n)) l₇ r
-laid-split {piece = piece} {n = n} {i} {j} {c} {set} {t} text rows w1 named w2 w3 w4 w5 w6 w7 first small le left lc within table =
+laid-split {piece = piece} {m = m} {n} {i} {j} {c} {set} {t} text rows w1 named w2 w3 w4 w5 w6 w7 first le before lc ends =
+    let small : n ≤ 10 = ends .small in
+    let left : j < n = omega (arith, ends .most) in
+    let within = ends .within in
+    let table = ends .tells in
+    let passed : First t n i c j = record { passed = first .passed; marked = λ l. first .marked before } in
     let names = namesOf text rows n in
     let A : Guard = guardOf (j + 1) (n - (j + 1)) (λ q. inSet set (c + 2 ^ j + q * 2 ^ (j + 1))) in
     let B : Guard = guardOf (j + 1) (n - (j + 1)) (λ q. inSet set (c + q * 2 ^ (j + 1))) in
     let lj : c < 2 ^ j = omega (arith, pow-mono {i = i} {j = j} le) in
     let s : step j ≡ 2 ^ j = step-is j (omega arith) in
-    let h : guardOf j (n - j) (allowed set j c) ≡ choice (feature j) A B = rw add-one (split-guard small within table left lj (first .marked left)) in
-    let g : guardOf i (n - i) (allowed set i c) ≡ choice (feature j) A B = first-guard small within table first le (omega arith) lc ∙ h in
+    let h : guardOf j (n - j) (allowed set j c) ≡ choice (feature j) A B = rw add-one (split-guard small within table left lj (first .marked before)) in
+    let g : guardOf i (n - i) (allowed set i c) ≡ choice (feature j) A B = first-guard small within table passed le (omega arith) lc ∙ h in
     let u : guardText n i c set names ≡ (40 ∷ []) ++ (piece ++ ((63 ∷ []) ++ (print A names [] ++ ((58 ∷ []) ++ (print B names [] ++ (41 ∷ [])))))) =
     rw (g, named) (choice-text text rows n j A B left) in
-    rw u (wrote-then w1 (wrote-then w2 (wrote-then w3 (wrote-then (rw s at (w4 within table)) (wrote-then w5 (wrote-then (w6 within table) w7))))))
+    rw u (wrote-then w1 (wrote-then w2 (wrote-then w3 (wrote-then (rw s at (w4 n ends)) (wrote-then w5 (wrote-then (w6 n ends) w7))))))
 
 -- the choices stay below what the features decided make
 pub chosen-below : (i j n c : ℕ) → c < 2 ^ i → i ≤ j → j < n → n ≤ 10 → c + step j < 2 ^ (j + 1)
@@ -155,14 +171,13 @@ whole-in n set every cut both all small q l =
     ap (λ (x : ℕ). inSet cut x) e ∙ ap (λ (x : ℕ). eqb x 1) m
 
 -- the guard of the first features' products
-pub laid-whole : {l l′ : List ℕ} {at r : ℕ} (text : List ℕ) (rows : List (List ℕ)) (count n : ℕ) (set every cut table : List ℕ)
-    → (Within n cut → Tells n cut table → Wrote l at (guardText n 0 0 cut (namesOf text rows n)) l′ r) → n ≡ min count 10
+pub laid-whole : {l l′ : List ℕ} {at r : ℕ} (text : List ℕ) (rows : List (List ℕ)) (count n : ℕ) (set every cut : List ℕ)
+    → Wrote l at (guardText n 0 0 cut (namesOf text rows n)) l′ r → n ≡ min count 10
     → ((p : ℕ) → p < 1024 → has cut p ≡ min (has set p) (has every p)) → ((p : ℕ) → p < 1024 → has every p ≡ oneIf (ltb p (2 ^ n)))
-    → Tells n cut table → Wrote l at (print (guardOf 0 (min count 10) (inSet set)) (namesOf text rows (min count 10)) []) l′ r
-laid-whole {l} {l′} {at} {r} text rows count n set every cut table w e both all tells =
+    → Wrote l at (print (guardOf 0 (min count 10) (inSet set)) (namesOf text rows (min count 10)) []) l′ r
+laid-whole {l} {l′} {at} {r} text rows count n set every cut w e both all =
     let small : n ≤ 10 = omega arith in
     let none : n - 0 ≡ n = omega arith in
     let g : guardOf 0 n (λ q. inSet cut (0 + q * 2 ^ 0)) ≡ guardOf 0 n (inSet set) =
     guard-ext n 0 (λ q. inSet cut (0 + q * 2 ^ 0)) (inSet set) (whole-in n set every cut both all small) in
-    let u : Wrote l at (guardText n 0 0 cut (namesOf text rows n)) l′ r = w (whole-within n set every cut both all) tells in
-    rw (← e, ← g) (rw none at u)
+    rw (← e, ← g) (rw none at w)

@@ -5,7 +5,7 @@ use mathlib.Core.List.{List, [], _∷_}
 use mathlib.Core.Path.{_≡_}
 use Prim.Native.Nat.{ℕ, zero, suc, _+_, _*_, _-_, _^_, _<_, _≤_, min}
 use lib.Dec.{eqb}
-use lib.ListN.{length}
+use lib.ListN.{getD, length}
 use Rattle.products.specs.Sets.{bit, has, countTo}
 use Rattle.guards.specs.Guard.{Guard, never, always, feature, choice, holds}
 
@@ -72,6 +72,26 @@ pub record Level (set : List ℕ) (i x : ℕ) : Type 0 where
 pub record First (t : List ℕ) (n i c j : ℕ) : Type 0 where
   pub passed : (k : ℕ) → i ≤ k → k < j → inSet t (2 ^ k + c) ≡ false
   pub marked : j < n → inSet t (2 ^ j + c) ≡ true
+
+-- the table t tells on which of the first n features the set depends, and it marks none of them from m on
+pub record Ends (m n : ℕ) (set t : List ℕ) : Type 0 where
+  pub most : m ≤ n
+  pub small : n ≤ 10
+  pub within : Within n set
+  pub tells : Tells n set t
+  pub blank : (p : ℕ) → 2 ^ m ≤ p → p < 2 ^ n → has t p ≡ 0
+
+-- the words of such a table behind the first, as far as the first n features have bits there; m is 6 at least, or n
+pub record Later (m n : ℕ) (set t : List ℕ) : Type 0 where
+  pub most : m ≤ n
+  pub least : min n 6 ≤ m
+  pub long : length t ≡ 16
+  pub words : (v : ℕ) → 1 ≤ v → v < 16 → v * 64 < 2 ^ n → Word set v (getD t v 0)
+  pub blank : (p : ℕ) → 2 ^ m ≤ p → p < 2 ^ n → has t p ≡ 0
+
+-- where m is at most 6, the first word of the set stands for all: two places that it has alike, each word has alike
+pub record Plain (m : ℕ) (set : List ℕ) : Type 0 where
+  pub alike : m ≤ 6 → (w j k : ℕ) → w < 16 → j < 64 → k < 64 → has set j ≡ has set k → has set (w * 64 + j) ≡ has set (w * 64 + k)
 
 abbrev pub leafText : Bool → List ℕ
 leafText true = 49 ∷ []

@@ -4,24 +4,22 @@ ghost use Prim.Native.Nat.{ℕ, _+_, _^_, _<_, _≤_};
 ghost use lib.Dec.{eqb};
 ghost use lib.ListN.{getD, length};
 ghost use Rattle.products.specs.Sets.{bit};
-ghost use Rattle.splitting.specs.Splitting.{inSet, all, Within, Tells, Word, Level, First};
+ghost use Rattle.splitting.specs.Splitting.{inSet, all, Within, Word, Level, First, Ends, Later, Plain};
 
 // Lays the table: bit 2 ^ i + c of it, for i below n, is 1 exactly if the set depends on feature i among the
 // products whose first i features make the number c. Six features have all their bits in word 0, and the
-// other words are left as they are.
-pub(crate) fn lay_table(set: &[u64; 16], n: usize, table: &mut [u64; 16])
-    requires { ⌜ (n ≤ 10) × Within n (now set) ⌝ }
-    ensures { λ _. ⌜ (length (now (table .entry)) ≡ 16 → Tells n (now (set .entry)) (now (table .exit))) ⌝ }
+// other words are left as they are. Answers behind how many features, of the first n, nothing is marked.
+pub(crate) fn lay_table(set: &[u64; 16], n: usize, table: &mut [u64; 16]) -> usize
+    requires { ⌜ (n ≤ 10) × Within n (now set) × (length (now table) ≡ 16) ⌝ }
+    ensures { λ m. ⌜ (m ≤ n) × Ends m n (now (set .entry)) (now (table .exit)) ⌝ }
 {
-    table[0] = first_word(set, n);
-    if n <= 6 {
-        return;
+    let m = lay_later(set, n, table);
+    let x = first_word(set, m);
+    table[0] = x;
+    if 6 < m {
+        return m;
     }
-    let mut w = 1;
-    while w < 16 {
-        table[w] = later_word(set, w);
-        w += 1;
-    }
+    counts::at_most(last_of_six(x), m)
 }
 
 // The first feature from i on, and before n, that the table marks for the choices made; else n.
@@ -47,25 +45,83 @@ pub(crate) fn marked(words: &[u64; 16], p: usize) -> bool
     (words[p / 64] >> (p % 64)) % 2 == 1
 }
 
+// Lays the words behind the first, and answers behind how many features they mark none: 6 at least, or n.
+fn lay_later(set: &[u64; 16], n: usize, table: &mut [u64; 16]) -> usize
+    requires { ⌜ (n ≤ 10) × Within n (now set) × (length (now table) ≡ 16) ⌝ }
+    ensures { λ m. ⌜ Plain m (now (set .entry)) × Later m n (now (set .entry)) (now (table .exit)) ⌝ }
+{
+    if n <= 6 {
+        return n;
+    }
+    let mut w = 1;
+    while w < 16 {
+        table[w] = later_word(set, w);
+        w += 1;
+    }
+    counts::at_most(last_of_ten(table), n)
+}
+
+// 6 to 10: behind so many features no word marks any. What word 0 marks does not matter.
+fn last_of_ten(table: &[u64; 16]) -> usize
+    ensures { λ r. ⌜ (6 ≤ r) × Within r (now (table .entry)) ⌝ }
+{
+    let a = table[8] | table[9] | table[10] | table[11];
+    if 0 < (a | table[12] | table[13] | table[14] | table[15]) {
+        return 10;
+    }
+    if 0 < (table[4] | table[5] | table[6] | table[7]) {
+        return 9;
+    }
+    if 0 < (table[2] | table[3]) {
+        return 8;
+    }
+    if 0 < table[1] {
+        return 7;
+    }
+    6
+}
+
+// 1 to 6: behind so many features word 0 marks none.
+fn last_of_six(x: u64) -> usize
+    ensures { λ r. ⌜ x < 2 ^ 2 ^ r ⌝ }
+{
+    if x < 0x4 {
+        return 1;
+    }
+    if x < 0x10 {
+        return 2;
+    }
+    if x < 0x100 {
+        return 3;
+    }
+    if x < 0x1_0000 {
+        return 4;
+    }
+    if x < 0x1_0000_0000 {
+        return 5;
+    }
+    6
+}
+
 // Word 0 of the table: features 0 to 5, the bits of each behind those of the one before.
-fn first_word(set: &[u64; 16], n: usize) -> u64
-    requires { ⌜ Within n (now set) ⌝ }
+fn first_word(set: &[u64; 16], m: usize) -> u64
+    requires { ⌜ Plain m (now set) ⌝ }
     ensures { λ r. ⌜ Word (now (set .entry)) 0 r ⌝ }
 {
-    let a = low_level(set, n, 0) % 2 * 2;
-    let b = a + low_level(set, n, 1) % 4 * 4;
-    let c = b + low_level(set, n, 2) % 16 * 16;
-    let d = c + low_level(set, n, 3) % 256 * 256;
-    let e = d + low_level(set, n, 4) % 65536 * 65536;
-    e + low_level(set, n, 5) % 4294967296 * 4294967296
+    let a = low_level(set, m, 0) % 2 * 2;
+    let b = a + low_level(set, m, 1) % 4 * 4;
+    let c = b + low_level(set, m, 2) % 16 * 16;
+    let d = c + low_level(set, m, 3) % 256 * 256;
+    let e = d + low_level(set, m, 4) % 65536 * 65536;
+    e + low_level(set, m, 5) % 4294967296 * 4294967296
 }
 
 // Feature i below 6: whatever the later features are, brought together on the first bits.
-fn low_level(set: &[u64; 16], n: usize, i: usize) -> u64
-    requires { ⌜ (i < 6) × Within n (now set) ⌝ }
+fn low_level(set: &[u64; 16], m: usize, i: usize) -> u64
+    requires { ⌜ (i < 6) × Plain m (now set) ⌝ }
     ensures { λ r. ⌜ Level (now (set .entry)) i r ⌝ }
 {
-    let mut r = across(set, n, i);
+    let mut r = across(set, m, i);
     let mut j = 5;
     while i < j {
         r = r | (r >> (1u64 << j));
@@ -74,13 +130,13 @@ fn low_level(set: &[u64; 16], n: usize, i: usize) -> u64
     r
 }
 
-// Bit k: in some word bits k and k + 2 ^ i differ. The products of six features are all in word 0.
-fn across(set: &[u64; 16], n: usize, i: usize) -> u64
-    requires { ⌜ (i < 6) × Within n (now set) ⌝ }
+// Bit k: in some word bits k and k + 2 ^ i differ. Where six features are enough, word 0 tells of all words.
+fn across(set: &[u64; 16], m: usize, i: usize) -> u64
+    requires { ⌜ (i < 6) × Plain m (now set) ⌝ }
     ensures { λ r. ⌜ ((k : ℕ) → 2 ^ i + k < 64 → eqb (bit r k) 0 ≡ all (λ w. eqb (bit (getD (now (set .entry)) w 0) k) (bit (getD (now (set .entry)) w 0) (2 ^ i + k))) 16) ⌝ }
 {
     let step = 1u64 << i;
-    if n <= 6 {
+    if m <= 6 {
         return set[0] ^ (set[0] >> step);
     }
     let mut r = 0u64;

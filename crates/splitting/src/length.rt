@@ -7,30 +7,30 @@ ghost use lib.ListN.{length};
 ghost use Rattle.products.specs.Sets.{countTo};
 ghost use Rattle.guards.specs.Guard.{print};
 ghost use Rattle.guards.specs.Reading.{namesOf};
-ghost use Rattle.splitting.specs.Splitting.{inSet, guardOf, Within, Tells, Met, Further, Widened};
+ghost use Rattle.splitting.specs.Splitting.{inSet, guardOf, Ends, Met, Further, Widened};
 use tables::NAME;
 use tables::NAME_END;
 
 // A name of more bytes is not counted with: the sums stay small, and nothing hangs on it but speed.
 const MOST_NAME: usize = 64;
 
-// The length of the guard of every set of which the table tells; or 0, where a name is too long to
-// be counted with. A choice that is split on feature i adds the feature's name, the bytes `(?:)` and
-// one leaf more.
+// The length of the guard of every set of which the table tells, where it marks no feature from m on;
+// or 0, where a name is too long to be counted with. A choice that is split on feature i adds the
+// feature's name, the bytes `(?:)` and one leaf more.
 pub(crate) fn guard_length(
     text: &[u8],
     names: &[[usize; 2]; 10],
-    n: usize,
+    m: usize,
     table: &[u64; 16],
 ) -> usize
-    requires { ⌜ n ≤ 10 ⌝ }
-    ensures { λ r. ⌜ (0 < r → (set : List ℕ) → Within n set → Tells n set (now (table .entry)) → r ≡ length (print (guardOf 0 n (inSet set)) (namesOf (now (text .entry)) (now (names .entry)) n) List.[])) ⌝ }
+    requires { ⌜ m ≤ 10 ⌝ }
+    ensures { λ r. ⌜ (0 < r → (n : ℕ) (set : List ℕ) → Ends m n set (now (table .entry)) → r ≡ length (print (guardOf 0 n (inSet set)) (namesOf (now (text .entry)) (now (names .entry)) n) List.[])) ⌝ }
 {
     let mut met = [0u64; 16];
     met[0] = 1;
     let mut total = 1;
     let mut i = 0;
-    while i < n {
+    while i < m {
         let row = names[i];
         let from = row[NAME];
         let upto = row[NAME_END];

@@ -4,11 +4,11 @@ mod dependence;
 mod length;
 
 ghost use mathlib.Core.List.{List};
-ghost use Prim.Native.Nat.{_+_, _-_, _*_, _^_, _<_, _≤_, min};
+ghost use Prim.Native.Nat.{ℕ, _+_, _-_, _*_, _^_, _<_, _≤_, min};
 ghost use Rattle.text.specs.Text.{Wrote};
 ghost use Rattle.guards.specs.Guard.{print};
 ghost use Rattle.guards.specs.Reading.{namesOf};
-ghost use Rattle.splitting.specs.Splitting.{inSet, guardOf, Within, Tells, leafText};
+ghost use Rattle.splitting.specs.Splitting.{inSet, guardOf, Ends, leafText};
 use tables::NAME;
 use tables::NAME_END;
 
@@ -29,35 +29,36 @@ pub fn put_guard(
     let n = counts::at_most(count, 10);
     let few = products::both(set, products::all(n));
     let mut table = [0u64; 16];
-    dependence::lay_table(&few, n, &mut table);
+    let m = dependence::lay_table(&few, n, &mut table);
     if room.len() <= at {
-        let long = length::guard_length(text, names, n, &table);
+        let long = length::guard_length(text, names, m, &table);
         if 0 < long {
             return text::place_behind(at, long);
         }
     }
-    put_set(room, at, text, names, n, 0, 0, &few, &table)
+    put_set(room, at, text, names, m, 0, 0, &few, &table)
 }
 
 // Lays the guard of the set's products that the choices made for the features before i allow. It
-// splits on the first feature from i on that the table marks, and calls itself on both halves.
+// splits on the first feature from i on that the table marks, and calls itself on both halves. From
+// feature m on the table marks none.
 fn put_set(
     room: &mut [u8],
     at: usize,
     text: &[u8],
     names: &[[usize; 2]; 10],
-    n: usize,
+    m: usize,
     i: usize,
     chosen: usize,
     set: &[u64; 16],
     table: &[u64; 16],
 ) -> usize
-    requires { ⌜ (n ≤ 10) × (i ≤ n) × (chosen < 2 ^ i) ⌝ }
-    ensures { λ r. ⌜ (Within n (now (set .entry)) → Tells n (now (set .entry)) (now (table .entry)) → Wrote (now (room .entry)) at (print (guardOf i (n - i) (λ q. inSet (now (set .entry)) (chosen + q * 2 ^ i))) (namesOf (now (text .entry)) (now (names .entry)) n) List.[]) (now (room .exit)) r) ⌝ }
+    requires { ⌜ (m ≤ 10) × (i ≤ m) × (chosen < 2 ^ i) ⌝ }
+    ensures { λ r. ⌜ ((n : ℕ) → Ends m n (now (set .entry)) (now (table .entry)) → Wrote (now (room .entry)) at (print (guardOf i (n - i) (λ q. inSet (now (set .entry)) (chosen + q * 2 ^ i))) (namesOf (now (text .entry)) (now (names .entry)) n) List.[]) (now (room .exit)) r) ⌝ }
 {
     let text = &text[0..text.len()];
-    let j = dependence::first(table, n, i, chosen);
-    if n <= j {
+    let j = dependence::first(table, m, i, chosen);
+    if m <= j {
         return put_leaf(room, at, dependence::marked(set, chosen));
     }
     let given = chosen + (1usize << j);
@@ -67,9 +68,9 @@ fn put_set(
     let a = text::put(room, at, b'(');
     let b = text::put_bytes(room, a, fields::piece(text, from, upto));
     let c = text::put(room, b, b'?');
-    let d = put_set(room, c, text, names, n, j + 1, given, set, table);
+    let d = put_set(room, c, text, names, m, j + 1, given, set, table);
     let e = text::put(room, d, b':');
-    let f = put_set(room, e, text, names, n, j + 1, chosen, set, table);
+    let f = put_set(room, e, text, names, m, j + 1, chosen, set, table);
     text::put(room, f, b')')
 }
 

@@ -57,15 +57,15 @@ pub +put-set-spec : {M : Type 1} → statement M
     ))
     (λ c κs. search needs)
     (λ c. search needs)
-    (λ c within tells.
+    (λ c n ends.
     let leaf = c .before .before in
     let asked = leaf .before in
     let tested = asked .before .before in
     let found = tested .before in
     let start = found .before .before .before .before in
     anew _ _ _ _
-    (laid-leaf _ (leaf .put-leaf .ensures) (asked .marked .ensures) (found .first .ensures .2) (start .pre .1 .0) (found .first .ensures .0)
-    (found .first .ensures .1) (tested .if1 .taken) (start .pre .1 .2) within tells))
+    (laid-leaf _ (leaf .put-leaf .ensures) (asked .marked .ensures) (found .first .ensures .2) (tested .if1 .taken)
+    (start .pre .1 .1) (start .pre .1 .2) ends))
     (λ c. omega (arith, c .if1 .left, c .before .before .before .before .before .pre .1 .0))
     (λ c. omega (
       arith,
@@ -132,7 +132,7 @@ pub +put-set-spec : {M : Type 1} → statement M
       room7 .room7 .given,
       room8 .room8 .given,
     ))
-    (λ c within tells.
+    (λ c n ends.
     let close = c .before .before in
     let other = close .before .before .before .before in
     let colon = other .before .before .before .before in
@@ -146,5 +146,5 @@ pub +put-set-spec : {M : Type 1} → statement M
     let start = found .before .before .before .before in
     anew _ _ _ _
     (laid-split _ _ (bracket .put .ensures) (row-name .piece .ensures) (name .put-bytes .ensures) (mark .put2 .ensures) (given .put-set .ensures)
-    (colon .put3 .ensures) (other .put-set2 .ensures) (close .put4 .ensures) (found .first .ensures .2) (start .pre .1 .0) (found .first .ensures .0)
-    (tested .if1 .left) (start .pre .1 .2) within tells))
+    (colon .put3 .ensures) (other .put-set2 .ensures) (close .put4 .ensures) (found .first .ensures .2) (found .first .ensures .0)
+    (tested .if1 .left) (start .pre .1 .2) ends))

@@ -11,10 +11,13 @@ use Rattle.splitting.proofs.put_guard.Tie as tie
 lay-table-requires : tie.Need-lay-table-requires
 lay-table-requires c κs =
     let cut = c .before .before in
-    let every = cut .before in (omega (arith, every .before .at-most .ensures), whole-within _ _ _ _ (cut .both .ensures) (every .all .ensures))
+    let every = cut .before in
+    (omega (arith, every .before .at-most .ensures), whole-within _ _ _ _ (cut .both .ensures) (every .all .ensures), refl)
 
 guard-length-requires : tie.Need-guard-length-requires
-guard-length-requires c κs = omega (arith, c .before .before .before .before .before .before .before .at-most .ensures)
+guard-length-requires c κs =
+    let made = c .before .before in
+    omega (arith, made .before .before .before .before .before .at-most .ensures, made .lay-table .ensures .0)
 
 returns : tie.Need-returns
 returns c =
@@ -26,12 +29,15 @@ returns c =
     let every = cut .before in
     let good = every .before .before .before .before .before .good in
     anew _ _ _ _
-    (laid-whole _ _ _ _ _ _ _ _
-    (laid-counted _ _ (counted .guard-length .ensures) (c .place-behind .ensures) (tested .if2 .taken) (full .if1 .taken) (search needs))
-    (every .before .at-most .ensures) (cut .both .ensures) (every .all .ensures) (made .lay-table .ensures refl))
+    (laid-whole _ _ _ _ _ _ _
+    (laid-counted _ _ (counted .guard-length .ensures) (c .place-behind .ensures) (tested .if2 .taken) (full .if1 .taken) (search needs)
+    (made .lay-table .ensures .1))
+    (every .before .at-most .ensures) (cut .both .ensures) (every .all .ensures))
 
 put-set-requires : tie.Need-put-set-requires
-put-set-requires c κs = (omega (arith, c .before .before .before .before .before .before .before .before .before .at-most .ensures), omega arith, omega arith)
+put-set-requires c κs =
+    let made = c .before .before .before .before in
+    (omega (arith, made .before .before .before .before .before .at-most .ensures, made .lay-table .ensures .0), omega arith, omega arith)
 
 returns-2 : tie.Need-returns-2
 returns-2 c =
@@ -40,8 +46,8 @@ returns-2 c =
     let cut = made .before .before .before in
     let every = cut .before in
     anew _ _ _ _
-    (laid-whole _ _ _ _ _ _ _ _ (laid .put-set .ensures) (every .before .at-most .ensures) (cut .both .ensures) (every .all .ensures)
-    (made .lay-table .ensures refl))
+    (laid-whole _ _ _ _ _ _ _ (laid .put-set .ensures _ (made .lay-table .ensures .1)) (every .before .at-most .ensures) (cut .both .ensures)
+    (every .all .ensures))
 
 pub put-guard-spec : {M : Type 1} → statement M
 put-guard-spec =

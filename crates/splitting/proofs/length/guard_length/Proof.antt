@@ -7,10 +7,10 @@ use Rattle.splitting.proofs.length.guard_length.Statement.{statement}
 use Rattle.splitting.proofs.length.guard_length.Tie as tie
 
 abbrev Inv-loop : tie.InvT-loop
-Inv-loop text names n table met₀ total₀ i₀ met total i = Counted n text names table met i total
+Inv-loop text names m table met₀ total₀ i₀ met total i = Counted m text names table met i total
 
 abbrev μ-loop : tie.MeasureT-loop
-μ-loop text names n table met₀ total₀ i₀ met total i = n - i
+μ-loop text names m table met₀ total₀ i₀ met total i = m - i
 
 loop-holds : tie.Need-loop-holds Inv-loop μ-loop
 loop-holds c = counted-none _ _ _ _
@@ -26,7 +26,7 @@ loop-again c =
     let short = c .before .before in
     let named = short .before in
     let turn = named .before .before in
-    counted-more (turn .before .loop .inv) (c .splits .ensures) (turn .loop-test .taken) (turn .before .before .before .pre) (named .piece .ensures)
+    counted-more (turn .before .loop .inv) (c .splits .ensures) (turn .loop-test .taken) (named .piece .ensures)
     (short .if1 .left) (omega arith)
 
 -- neither the sum nor what is added to it is large
