@@ -65,7 +65,8 @@ module _ {x y : List ℕ} {n : ℕ} (a : BeginAlike x y n) where
   }
 
   -- eight places further, by their numbers
-  pub alike-eight : {w v : ℕ} → Digits (λ k. getD x (n + k) 0) w → Digits (λ k. getD y (n + k) 0) v → w ≡ v → n + 8 ≤ length x → n + 8 ≤ length y → BeginAlike x y (n + 8)
+  pub alike-eight : {w v : ℕ} → Digits (λ k. getD x (n + k) 0) w → Digits (λ k. getD y (n + k) 0) v → w ≡ v → n + 8 ≤ length x → n + 8 ≤ length y
+      → BeginAlike x y (n + 8)
   alike-eight d b e h l = record { left = h; right = l; same = take-more x y n 8 h l (a .same) (digits-same d b e) }
 
   -- one place further, by its bytes
