@@ -15,7 +15,8 @@ use lib.Seq.{getD-set-same, getD-set-other}
 use Rattle.products.specs.Sets.{bit, has}
 use Rattle.products.proofs.Bits.{bit-or, past-bit, zero-bit}
 use Rattle.products.proofs.Laws.{has-le, has-at}
-use Rattle.splitting.specs.Splitting.{inSet, freeOf, Within, Tells, Word, Ends, Later, Plain}
+use Rattle.splitting.specs.Splitting.{inSet}
+use Rattle.splitting.specs.Inside.{freeOf, Within, Tells, Word, Ends, Later, Plain}
 use Rattle.splitting.proofs.Laws.{free-at}
 use Rattle.splitting.proofs.Marks.{two-pow, told, Made}
 

@@ -12,7 +12,8 @@ use lib.Pow.{pow-add, pow-mono}
 use Rattle.products.specs.Sets.{has}
 use Rattle.products.proofs.Laws.{has-le}
 use Rattle.guards.specs.Guard.{Guard, feature, choice}
-use Rattle.splitting.specs.Splitting.{inSet, with, without, free, guardOf, freeOf, Within, Tells, First}
+use Rattle.splitting.specs.Splitting.{inSet, with, without, free, guardOf}
+use Rattle.splitting.specs.Inside.{freeOf, Within, Tells, First}
 use Rattle.splitting.proofs.Laws.{bool-ext, guard-ext, free-of, free-at}
 use Rattle.splitting.proofs.Marks.{two-pow, even-stride, odd-stride, marked-clear, marked-set}
 

@@ -18,7 +18,8 @@ use Rattle.text.proofs.Laws.{wrote-past}
 use Rattle.guards.specs.Guard.{Guard, print}
 use Rattle.guards.specs.Reading.{namesOf}
 use Rattle.guards.proofs.Finding.{rowName}
-use Rattle.splitting.specs.Splitting.{inSet, guardOf, Within, Tells, Ends, Met, Further, leafText}
+use Rattle.splitting.specs.Splitting.{inSet, guardOf}
+use Rattle.splitting.specs.Inside.{Within, Tells, Ends, Met, Further, leafText}
 use Rattle.splitting.proofs.Laws.{guard-ext}
 use Rattle.splitting.proofs.Marks.{two-pow}
 use Rattle.splitting.proofs.Halving.{allowed, split-guard, skip-guard}

@@ -18,7 +18,8 @@ use lib.Seq.{getD-set-same, getD-set-other}
 use Rattle.products.specs.Sets.{bit, has}
 use Rattle.products.proofs.Bits.{bit-or, bit-xor, zero-bit}
 use Rattle.products.proofs.Laws.{has-at}
-use Rattle.splitting.specs.Splitting.{inSet, alike, all, freeOf, Word, Level, First, Plain}
+use Rattle.splitting.specs.Splitting.{inSet, alike, all}
+use Rattle.splitting.specs.Inside.{freeOf, Word, Level, First, Plain}
 use Rattle.splitting.proofs.Laws.{bool-ext, alike-eq, eq-alike, all-at, all-true, all-ext}
 
 -- ---- numbers

@@ -21,7 +21,8 @@ use Rattle.fields.proofs.Parts.{part-rest}
 use Rattle.guards.specs.Guard.{Operator, Guard, Parts, never, always, feature, neg, chain, choice, one, more, nameOf, byteOf, print, printParts}
 use Rattle.guards.specs.Reading.{namesOf}
 use Rattle.guards.proofs.Finding.{rowName, names-length}
-use Rattle.splitting.specs.Splitting.{inSet, guardOf, Within, First, Ends, leafText}
+use Rattle.splitting.specs.Splitting.{inSet, guardOf}
+use Rattle.splitting.specs.Inside.{Within, First, Ends, leafText}
 use Rattle.splitting.proofs.Laws.{guard-ext}
 use Rattle.splitting.proofs.Marks.{two-pow, step, step-is}
 use Rattle.splitting.proofs.Halving.{allowed, split-guard, first-guard}

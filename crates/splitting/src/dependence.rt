@@ -4,7 +4,8 @@ ghost use Prim.Native.Nat.{ℕ, _+_, _^_, _<_, _≤_};
 ghost use lib.Dec.{eqb};
 ghost use lib.ListN.{getD, length};
 ghost use Rattle.products.specs.Sets.{bit};
-ghost use Rattle.splitting.specs.Splitting.{inSet, all, Within, Word, Level, First, Ends, Later, Plain};
+ghost use Rattle.splitting.specs.Splitting.{inSet, all};
+ghost use Rattle.splitting.specs.Inside.{Within, Word, Level, First, Ends, Later, Plain};
 
 // Lays the table: bit 2 ^ i + c of it, for i below n, is 1 exactly if the set depends on feature i among the
 // products whose first i features make the number c. Six features have all their bits in word 0, and the

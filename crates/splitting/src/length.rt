@@ -7,7 +7,8 @@ ghost use lib.ListN.{length};
 ghost use Rattle.products.specs.Sets.{countTo};
 ghost use Rattle.guards.specs.Guard.{print};
 ghost use Rattle.guards.specs.Reading.{namesOf};
-ghost use Rattle.splitting.specs.Splitting.{inSet, guardOf, Ends, Met, Further, Widened};
+ghost use Rattle.splitting.specs.Splitting.{inSet, guardOf};
+ghost use Rattle.splitting.specs.Inside.{Ends, Met, Further, Widened};
 use tables::NAME;
 use tables::NAME_END;
 

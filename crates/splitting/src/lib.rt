@@ -8,7 +8,8 @@ ghost use Prim.Native.Nat.{ℕ, _+_, _-_, _*_, _^_, _<_, _≤_, min};
 ghost use Rattle.text.specs.Text.{Wrote};
 ghost use Rattle.guards.specs.Guard.{print};
 ghost use Rattle.guards.specs.Reading.{namesOf};
-ghost use Rattle.splitting.specs.Splitting.{inSet, guardOf, Ends, leafText};
+ghost use Rattle.splitting.specs.Splitting.{inSet, guardOf};
+ghost use Rattle.splitting.specs.Inside.{Ends, leafText};
 use tables::NAME;
 use tables::NAME_END;
 

@@ -3,7 +3,7 @@ use mathlib.Core.Path.{_≡_}
 use Prim.Native.Nat.{_-_, _*_, _≤_}
 use native.Mathlib.Omega.{arith}
 use lib.ListN.{length}
-use Rattle.splitting.specs.Splitting.{Widened}
+use Rattle.splitting.specs.Inside.{Widened}
 use Rattle.splitting.proofs.Choices.{word-few, widened-none, widened-more, widened-all}
 use borrow.Author.Needs.{needs}
 use Rattle.splitting.proofs.length.word_splits.Statement.{statement}
