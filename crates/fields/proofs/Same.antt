@@ -1,18 +1,20 @@
 -- Runs of bytes compared. Assumes nothing.
-use mathlib.Core.Path.{_≡_, refl, sym, ap, ap₂, _∙_}
+use mathlib.Core.Path.{_≡_, refl, sym, ap, ap₂, _∙_, subst}
 use mathlib.Core.Bool.{Bool, true, false, cond, _&&_, and-false, and-eq-true-iff}
 use mathlib.Core.List.{List, [], _∷_, _++_}
-use Prim.Native.Nat.{ℕ, zero, suc, _+_, _≤_, _<_, min}
+use Prim.Native.Nat.{ℕ, zero, suc, _+_, _/_, _≤_, _<_, min}
 use native.Mathlib.Nat.{add-zero}
 use native.Mathlib.Omega.{arith}
 use borrow.Author.Tests.{eq-eqb, ne-eqb, eqb-true}
+use lib.Bits.{bitXor}
+use lib.Count.{trailingZeros, trailing-of-zero, trailing-le}
 use lib.Dec.{eqb}
 use lib.ListN.{length, getD, take, drop, drop-of-length-le, length-drop}
 use lib.Seq.{take-suc, take-take}
 use Rattle.fields.specs.Bytes.{sameBytes, sharedBytes}
 use Rattle.fields.specs.Words.{Digits, BeginAlike}
 use Rattle.fields.proofs.Parts.{headed}
-use Rattle.fields.proofs.Words.{digits-same}
+use Rattle.fields.proofs.Words.{digits-below}
 
 -- ---- from place to place
 
@@ -64,10 +66,21 @@ module _ {x y : List ℕ} {n : ℕ} (a : BeginAlike x y n) where
     same = sym (take-take r n x h) ∙ ap (take r) (a .same) ∙ take-take r n y h;
   }
 
-  -- eight places further, by their numbers
-  pub alike-eight : {w v : ℕ} → Digits (λ k. getD x (n + k) 0) w → Digits (λ k. getD y (n + k) 0) v → w ≡ v → n + 8 ≤ length x → n + 8 ≤ length y
-      → BeginAlike x y (n + 8)
-  alike-eight d b e h l = record { left = h; right = l; same = take-more x y n 8 h l (a .same) (digits-same d b e) }
+  module _ {w v : ℕ} (d : Digits (λ k. getD x (n + k) 0) w) (b : Digits (λ k. getD y (n + k) 0) v) (h : n + 8 ≤ length x) (l : n + 8 ≤ length y) where
+    -- up to the first of the next eight that differ, by their numbers
+    pub alike-below : BeginAlike x y (n + trailingZeros 64 (bitXor w v) / 8)
+    alike-below =
+        let most = trailing-le 64 (bitXor w v) in
+        let r = trailingZeros 64 (bitXor w v) / 8 in
+        let left : n + r ≤ length x = omega arith in
+        let right : n + r ≤ length y = omega arith in
+        record { left = left; right = right; same = take-more x y n r left right (a .same) (digits-below d b) }
+
+    -- eight places further, where none differs
+    pub alike-eight : bitXor w v ≡ 0 → BeginAlike x y (n + 8)
+    alike-eight e =
+        let all : n + trailingZeros 64 (bitXor w v) / 8 ≡ n + 8 = omega (arith, ap (trailingZeros 64) e, trailing-of-zero 64) in
+        subst (BeginAlike x y) all alike-below
 
   -- one place further, by its bytes
   pub alike-one : getD x n 0 ≡ getD y n 0 → n + 1 ≤ length x → n + 1 ≤ length y → BeginAlike x y (n + 1)

@@ -5,20 +5,9 @@ use Prim.Native.Nat.{ℕ, zero, suc, _+_, _-_, _*_, _/_, _%_, _^_, _≤_, _<_, s
 use native.Mathlib.Nat.{suc-add, zero-add, mul-one, one-le-pow, pow-suc, div-add-mod'}
 use native.Mathlib.Omega.{arith}
 use lib.Arith.{mod-mul}
-use lib.Bits.{bitAnd, bitXor, and-block, xor-block, xor-lt, and-le-l, and-le-r, and-mask, and-comm, and-shifted, xor-add-and, xor-self, shifted-even, shifted-half}
+use lib.Bits.{bitAnd, bitXor, and-block, xor-block, xor-lt, and-le-l, and-le-r, and-mask, and-comm, and-shifted, xor-add-and, xor-self, shifted-even, shifted-half, block-half, block-odd}
 use lib.Count.{trailingZeros, under}
 use Rattle.fields.specs.Words.{word, Digits, FirstOf}
-
--- ---- equal numbers have equal bytes
-
-word-same : (n : ℕ) (f g : ℕ → ℕ) → ((k : ℕ) → f k < 256) → ((k : ℕ) → g k < 256) → word f n ≡ word g n → (k : ℕ) → k < n → f k ≡ g k
-word-same zero f g lf lg e k h = absurd (omega arith)
-word-same (suc n) f g lf lg e zero h = omega (arith, e, lf 0, lg 0)
-word-same (suc n) f g lf lg e (suc k) h =
-    word-same n (λ j. f (suc j)) (λ j. g (suc j)) (λ j. lf (suc j)) (λ j. lg (suc j)) (omega (arith, e, lf 0, lg 0)) k (omega arith)
-
-pub digits-same : {f g : ℕ → ℕ} {w v : ℕ} → Digits f w → Digits g v → w ≡ v → (k : ℕ) → k < 8 → f k ≡ g k
-digits-same {f} {g} d b e = word-same 8 f g (d .small) (b .small) (sym (d .whole) ∙ e ∙ b .whole)
 
 -- ---- the zeros below the lowest bit
 
@@ -41,6 +30,20 @@ zeros-some (suc k) n ne l = go (n % 2) refl (zeros-some k (n / 2))
   where
     go : (r : ℕ) → n % 2 ≡ r → ((n / 2 ≡ 0 → ⊥) → n / 2 < 2 ^ k → trailingZeros k (n / 2) < k) → under r (trailingZeros k (n / 2)) < suc k
     go zero e more = suc-le-suc (more (λ h. ne (omega arith)) (omega (arith, pow-suc 2 k)))
+    go (suc r) e more = omega arith
+
+-- where the lowest j digits are not all 0, the lowest bit is among them
+zeros-low : (j k a b : ℕ) → (b ≡ 0 → ⊥) → b < 2 ^ j → trailingZeros (j + k) (a * 2 ^ j + b) < j
+unfolding trailingZeros
+zeros-low zero k a b ne l = absurd (ne (omega arith))
+zeros-low (suc j) k a b ne l =
+    let rest : (a * 2 ^ suc j + b) / 2 ≡ a * 2 ^ j + b / 2 = block-half a j b in
+    let low : (a * 2 ^ suc j + b) % 2 ≡ b % 2 = block-odd a j b in
+    rw (suc-add j k, rest, low) (go (b % 2) refl (zeros-low j k a (b / 2)))
+  where
+    go : (r : ℕ) → b % 2 ≡ r → ((b / 2 ≡ 0 → ⊥) → b / 2 < 2 ^ j → trailingZeros (j + k) (a * 2 ^ j + b / 2) < j)
+        → under r (trailingZeros (j + k) (a * 2 ^ j + b / 2)) < suc j
+    go zero e more = suc-le-suc (more (λ h. ne (omega arith)) (omega (arith, pow-suc 2 j)))
     go (suc r) e more = omega arith
 
 -- of n + 1 bytes the lowest has only its high bit, or is 0
@@ -121,23 +124,52 @@ first-zero (suc n) d y l e =
         let e : (8 + trailingZeros (n * 8) rest) / 8 ≡ suc (trailingZeros (n * 8) rest / 8) = omega arith in
         rw (low, passed-byte b (omega arith), zeros-passed n rest, e) (first-next (λ h. omega arith) (later (rw high at (p .0))))
 
--- ---- the first byte that is m
+-- ---- bytes compared all at once
 
-word-xor : (m n : ℕ) (f : ℕ → ℕ) → m < 256 → ((k : ℕ) → f k < 256) → bitXor (word f n) (word (λ k. m) n) ≡ word (λ k. bitXor (f k) m) n
-word-xor m zero f lm l = refl
-word-xor m (suc n) f lm l =
-    xor-block 8 (word (λ k. f (suc k)) n) (word (λ k. m) n) (f 0) m (l 0) lm
-    ∙ ap (λ (x : ℕ). x * 256 + bitXor (f 0) m) (word-xor m n (λ k. f (suc k)) lm (λ k. l (suc k)))
+word-xor : (n : ℕ) (f g : ℕ → ℕ) → ((k : ℕ) → f k < 256) → ((k : ℕ) → g k < 256) → bitXor (word f n) (word g n) ≡ word (λ k. bitXor (f k) (g k)) n
+word-xor zero f g lf lg = refl
+word-xor (suc n) f g lf lg =
+    xor-block 8 (word (λ k. f (suc k)) n) (word (λ k. g (suc k)) n) (f 0) (g 0) (lf 0) (lg 0)
+    ∙ ap (λ (x : ℕ). x * 256 + bitXor (f 0) (g 0)) (word-xor n (λ k. f (suc k)) (λ k. g (suc k)) (λ k. lf (suc k)) (λ k. lg (suc k)))
 
 same-byte : (b m : ℕ) → bitXor b m ≡ 0 → b ≡ m
 same-byte b m e = omega (arith, xor-add-and b m, and-le-l b m, and-le-r b m)
+
+-- ---- the bytes below the lowest bit are 0
+
+bytes-below : (n : ℕ) (d : ℕ → ℕ) → ((k : ℕ) → d k < 256) → (k : ℕ) → k < trailingZeros (n * 8) (word d n) / 8 → d k ≡ 0
+unfolding trailingZeros
+bytes-below zero d l k h = absurd (omega arith)
+bytes-below (suc n) d l k h = go (d 0) refl k h (bytes-below n (λ j. d (suc j)) (λ j. l (suc j)))
+  where
+    rest : ℕ
+    rest = word (λ j. d (suc j)) n
+
+    go : (b : ℕ) → d 0 ≡ b → (k : ℕ) → k < trailingZeros (suc n * 8) (rest * 256 + d 0) / 8 → ((j : ℕ) → j < trailingZeros (n * 8) rest / 8 → d (suc j) ≡ 0)
+        → d k ≡ 0
+    go zero e zero h later = e
+    go zero e (suc k) h later =
+        let z : trailingZeros (suc n * 8) (rest * 256 + d 0) ≡ 8 + trailingZeros (n * 8) rest = rw e (zeros-passed n rest) in
+        later k (omega arith)
+    go (suc b) e k h later =
+        let w : suc n * 8 ≡ 8 + n * 8 = omega arith in
+        let low : trailingZeros (suc n * 8) (rest * 256 + d 0) < 8 = rw w (zeros-low 8 (n * 8) rest (d 0) (λ z. omega arith) (l 0)) in
+        absurd (omega arith)
+
+-- two numbers have the same bytes below the lowest bit in which they differ
+pub digits-below : {f g : ℕ → ℕ} {w v : ℕ} → Digits f w → Digits g v → (k : ℕ) → k < trailingZeros 64 (bitXor w v) / 8 → f k ≡ g k
+digits-below {f} {g} {w} {v} d b k h =
+    let x : bitXor w v ≡ word (λ j. bitXor (f j) (g j)) 8 = ap₂ bitXor (d .whole) (b .whole) ∙ word-xor 8 f g (d .small) (b .small) in
+    same-byte (f k) (g k) (bytes-below 8 (λ j. bitXor (f j) (g j)) (λ j. xor-lt 8 (f j) (g j) (d .small j) (b .small j)) k (rw x at h))
+
+-- ---- the first byte that is m
 
 pub first-marked : {f : ℕ → ℕ} {w v m : ℕ} (y : ℕ) → Digits f w → v ≡ m → v < 256 → (y + 0x0101_0101_0101_0101) % 2 ^ 64 ≡ bitXor w (v * 0x0101_0101_0101_0101)
     → FirstOf f m 8 (trailingZeros 64 (bitAnd (bitAnd y (bitXor (bitXor w (v * 0x0101_0101_0101_0101)) 0xffff_ffff_ffff_ffff)) 0x8080_8080_8080_8080) / 8)
 unfolding marks
 first-marked {f} {w} {v} {m} y d same l e =
     let all : v * 0x0101_0101_0101_0101 ≡ word (λ k. v) 8 = omega arith in
-    let x : bitXor w (v * 0x0101_0101_0101_0101) ≡ word (λ k. bitXor (f k) v) 8 = ap₂ bitXor (d .whole) all ∙ word-xor v 8 f l (d .small) in
+    let x : bitXor w (v * 0x0101_0101_0101_0101) ≡ word (λ k. bitXor (f k) v) 8 = ap₂ bitXor (d .whole) all ∙ word-xor 8 f (λ k. v) (d .small) (λ k. l) in
     let first = first-zero 8 (λ k. bitXor (f k) v) y (λ k. xor-lt 8 (f k) v (d .small k) l) (e ∙ x) in
     rw (x, ← same) (record {
       high = first .high;

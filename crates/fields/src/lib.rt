@@ -142,16 +142,17 @@ pub fn shared(x: &[u8], y: &[u8]) -> usize
     n
 }
 
-// How many of the first bytes of x and y are alike in whole eights: no more than they share. Nothing hangs on it
-// but speed.
+// A place up to which x and y are alike, told by eights: the first that differ, or fewer than eight are left.
+// Nothing hangs on it but speed.
 fn eights(x: &[u8], y: &[u8]) -> usize
     ensures { λ r. ⌜ BeginAlike (now (x .entry)) (now (y .entry)) r ⌝ }
 {
     let most = shorter(x.len(), y.len());
     let mut k = 0;
     while 8 <= most - k {
-        if eight(x, k) != eight(y, k) {
-            return k;
+        let differs = eight(x, k) ^ eight(y, k);
+        if differs != 0 {
+            return k + u64::trailing_zeros(differs) as usize / 8;
         }
         k += 8;
     }

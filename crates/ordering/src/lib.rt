@@ -6,7 +6,10 @@ ghost use Prim.Native.Nat.{ℕ, _+_, _≤_, _<_, min};
 ghost use lib.ListN.{length, getD, take, drop};
 ghost use Rattle.ordering.specs.Ordering.{lessBytes, rowKey, keyAt, MadeRow, insertBy, Orders};
 ghost use Rattle.ordering.specs.Halving.{Level, Between};
+use tables::ACTION;
+use tables::ACTION_END;
 use tables::FROM;
+use tables::TO;
 
 // Lays the numbers of those of the first `count` moves that some product of its source's set makes into
 // `order`, in order, and answers how many they are. Rows count as far as both tables reach, 256 at most.
@@ -132,19 +135,19 @@ fn shift(order: &mut [u8; 256], place: usize, k: usize, x: usize)
 fn before(text: &[u8], a: [usize; 6], b: [usize; 6]) -> bool
     ensures { λ r. ⌜ r ≡ lessBytes (rowKey (now (text .entry)) a) (rowKey (now (text .entry)) b) ⌝ }
 {
-    let from = a[1];
-    let other = b[1];
+    let from = a[FROM];
+    let other = b[FROM];
     if from != other {
         return from < other;
     }
-    let to = a[4];
-    let onto = b[4];
+    let to = a[TO];
+    let onto = b[TO];
     if to != onto {
         return to < onto;
     }
     less(
-        fields::piece(text, a[2], a[3]),
-        fields::piece(text, b[2], b[3]),
+        fields::piece(text, a[ACTION], a[ACTION_END]),
+        fields::piece(text, b[ACTION], b[ACTION_END]),
     )
 }
 

@@ -98,11 +98,12 @@ none-left {m} {n} {i} {j} {c} {set} {t} ends first none lc = record { passed = �
     go k a l (no h) = blank-mark ends (omega arith) l (omega (arith, pow-mono {i = i} {j = k} a))
 
 -- no feature is left on which the set depends
-pub laid-leaf : {l l′ : List ℕ} {at r m n i j c : ℕ} {b : Bool} {set t : List ℕ} (names : List (List ℕ))
-    → Wrote l at (leafText b) l′ r → b ≡ inSet set c → First t m i c j
-    → m ≤ j → i ≤ m → c < 2 ^ i → Ends m n set t → Wrote l at (guardText n i c set names) l′ r
+pub laid-leaf : {l l′ : List ℕ} {at r m i j c : ℕ} {b : Bool} {set t : List ℕ} (text : List ℕ) (rows : List (List ℕ))
+    → Wrote l at (leafText b) l′ r → b ≡ inSet set c → First t m i c j → m ≤ j → i ≤ m → c < 2 ^ i
+    → (n : ℕ) → Ends m n set t → Wrote l at (guardText n i c set (namesOf text rows n)) l′ r
 unfolding guardOf
-laid-leaf {n = n} {i} {j} {c} {b} {set} {t} names w told first none li lc ends =
+laid-leaf {i = i} {j} {c} {b} {set} {t} text rows w told first none li lc n ends =
+    let names = namesOf text rows n in
     let z : n - n ≡ 0 = omega arith in
     let o : c + 0 * 2 ^ n ≡ c = omega (arith, zero-mul (2 ^ n)) in
     let g : guardText n i c set names ≡ guardText n n c set names =
@@ -115,6 +116,26 @@ laid-leaf {n = n} {i} {j} {c} {b} {set} {t} names w told first none li lc ends =
     ∙ ap leafText (sym told) in
     rw (g, e) w
 
+-- the set depends on j first, and is laid from there
+pub laid-from : {l l′ : List ℕ} {at r m i j c : ℕ} {set t : List ℕ} (text : List ℕ) (rows : List (List ℕ))
+    → ((n : ℕ) → Ends m n set t → inSet t (2 ^ j + c) ≡ true → Wrote l at (guardText n j c set (namesOf text rows n)) l′ r)
+    → First t m i c j → j < m → i ≤ j → c < 2 ^ i → (n : ℕ) → Ends m n set t → Wrote l at (guardText n i c set (namesOf text rows n)) l′ r
+laid-from {i = i} {j} {c} {set} {t} text rows w first before le lc n ends =
+    let names = namesOf text rows n in
+    let passed : First t n i c j = record { passed = first .passed; marked = λ l. first .marked before } in
+    let g : guardText n i c set names ≡ guardText n j c set names =
+    ap (λ (g : Guard). print g names [])
+    (first-guard (ends .small) (ends .within) (ends .tells) passed le (omega (arith, ends .most)) lc) in
+    rw g (w n ends (first .marked before))
+
+-- the two ways to lay a half meet
+pub laid-met : {l l′ k : List ℕ} {at r s m : ℕ} {set t : List ℕ} {v : ℕ → List ℕ} → ((n : ℕ) → Ends m n set t → Wrote l at (v n) k s) → l′ ≡ k → r ≡ s
+    → (n : ℕ) → Ends m n set t → Wrote l at (v n) l′ r
+laid-met w e f n ends = rw (e, f) (w n ends)
+
+pub length-met : {l k : List ℕ} {n : ℕ} → l ≡ k → length k ≡ n → length l ≡ n
+length-met e f = ap length e ∙ f
+
 pub choice-text : (text : List ℕ) (rows : List (List ℕ)) (n i : ℕ) (g k : Guard) → i < n
     → print (choice (feature i) g k) (namesOf text rows n) []
     ≡ (40 ∷ []) ++ (rowName text rows i ++ ((63 ∷ []) ++ (print g (namesOf text rows n) [] ++ ((58 ∷ []) ++ (print k (namesOf text rows n) [] ++ (41 ∷ []))))))
@@ -124,38 +145,37 @@ choice-text text rows n i g k left =
     rw (name-row text rows n i left, ← print-before k names [] (41 ∷ []), ← print-before g names [] (58 ∷ print k names (41 ∷ [])))
 
 -- the set is split on feature j: `(`, the feature's name, `?`, one half, `:`, the other, `)`
-pub laid-split : {l₀ l₁ l₂ l₃ l₄ l₅ l₆ l₇ piece : List ℕ} {at a b e d g f r m n i j c : ℕ} {set t : List ℕ} (text : List ℕ) (rows : List (List ℕ))
+pub laid-split : {l₀ l₁ l₂ l₃ l₄ l₅ l₆ l₇ piece : List ℕ} {at a b e d g f r m n j c : ℕ} {set t : List ℕ} (text : List ℕ) (rows : List (List ℕ))
     → Wrote l₀ at (40 ∷ []) l₁ a → piece ≡ rowName text rows j → Wrote l₁ a piece l₂ b → Wrote l₂ b (63 ∷ []) l₃ e
     → ((n : ℕ) → Ends m n set t → Wrote l₃ e (guardText n (j + 1) (c + step j) set (namesOf text rows n)) l₄ d) → Wrote l₄ d (58 ∷ []) l₅ g
     → ((n : ℕ) → Ends m n set t → Wrote l₅ g (guardText n (j + 1) c set (namesOf text rows n)) l₆ f) → Wrote l₆ f (41 ∷ []) l₇ r
-    → First t m i c j → i ≤ j → j < m → c < 2 ^ i → Ends m n set t
-    → Wrote l₀ at (guardText n i c set (namesOf text rows n)) l₇ r
-laid-split {piece = piece} {m = m} {n} {i} {j} {c} {set} {t} text rows w1 named w2 w3 w4 w5 w6 w7 first le before lc ends =
+    → j < m → c < 2 ^ j → Ends m n set t → inSet t (2 ^ j + c) ≡ true
+    → Wrote l₀ at (guardText n j c set (namesOf text rows n)) l₇ r
+laid-split {piece = piece} {m = m} {n} {j} {c} {set} {t} text rows w1 named w2 w3 w4 w5 w6 w7 before lc ends marked =
     let small : n ≤ 10 = ends .small in
     let left : j < n = omega (arith, ends .most) in
-    let within = ends .within in
-    let table = ends .tells in
-    let passed : First t n i c j = record { passed = first .passed; marked = λ l. first .marked before } in
     let names = namesOf text rows n in
     let A : Guard = guardOf (j + 1) (n - (j + 1)) (λ q. inSet set (c + 2 ^ j + q * 2 ^ (j + 1))) in
     let B : Guard = guardOf (j + 1) (n - (j + 1)) (λ q. inSet set (c + q * 2 ^ (j + 1))) in
-    let lj : c < 2 ^ j = omega (arith, pow-mono {i = i} {j = j} le) in
     let s : step j ≡ 2 ^ j = step-is j (omega arith) in
-    let h : guardOf j (n - j) (allowed set j c) ≡ choice (feature j) A B = rw add-one (split-guard small within table left lj (first .marked before)) in
-    let g : guardOf i (n - i) (allowed set i c) ≡ choice (feature j) A B = first-guard small within table passed le (omega arith) lc ∙ h in
-    let u : guardText n i c set names ≡ (40 ∷ []) ++ (piece ++ ((63 ∷ []) ++ (print A names [] ++ ((58 ∷ []) ++ (print B names [] ++ (41 ∷ [])))))) =
+    let g : guardOf j (n - j) (allowed set j c) ≡ choice (feature j) A B = rw add-one (split-guard small (ends .within) (ends .tells) left lc marked) in
+    let u : guardText n j c set names ≡ (40 ∷ []) ++ (piece ++ ((63 ∷ []) ++ (print A names [] ++ ((58 ∷ []) ++ (print B names [] ++ (41 ∷ [])))))) =
     rw (g, named) (choice-text text rows n j A B left) in
     rw u (wrote-then w1 (wrote-then w2 (wrote-then w3 (wrote-then (rw s at (w4 n ends)) (wrote-then w5 (wrote-then (w6 n ends) w7))))))
 
 -- the choices stay below what the features decided make
-pub chosen-below : (i j n c : ℕ) → c < 2 ^ i → i ≤ j → j < n → n ≤ 10 → c + step j < 2 ^ (j + 1)
-chosen-below i j n c lc le lj ln = rw add-one (omega (arith, step-is j (omega arith), two-pow j, pow-mono {i = i} {j = j} le))
+pub chosen-below : (j n c : ℕ) → c < 2 ^ j → j < n → n ≤ 10 → c + step j < 2 ^ (j + 1)
+chosen-below j n c lc lj ln = rw add-one (omega (arith, step-is j (omega arith), two-pow j))
 
-pub chosen-small : (i j n c : ℕ) → c < 2 ^ i → i ≤ j → j < n → n ≤ 10 → c + step j < 1024
-chosen-small i j n c lc le lj ln = omega (arith, chosen-below i j n c lc le lj ln, pow-mono {i = j + 1} {j = 10} (omega arith))
+pub chosen-small : (j n c : ℕ) → c < 2 ^ j → j < n → n ≤ 10 → c + step j < 1024
+chosen-small j n c lc lj ln = omega (arith, chosen-below j n c lc lj ln, pow-mono {i = j + 1} {j = 10} (omega arith))
 
-pub leaf-below : (i n c : ℕ) → c < 2 ^ i → i ≤ n → n ≤ 10 → c < 1024
-leaf-below i n c lc le ln = omega (arith, pow-mono {i = i} {j = 10} (omega arith))
+-- and below what later ones make
+pub below-later : (i j c : ℕ) → c < 2 ^ i → i ≤ j → c < 2 ^ j
+below-later i j c lc le = omega (arith, pow-mono {i = i} {j = j} le)
+
+pub below-next : (j c : ℕ) → c < 2 ^ j → c < 2 ^ (j + 1)
+below-next j c lc = below-later j (j + 1) c lc (omega arith)
 
 -- the first n features' products of the set
 pub whole-within : (n : ℕ) (set every cut : List ℕ) → ((p : ℕ) → p < 1024 → has cut p ≡ min (has set p) (has every p))

@@ -3,7 +3,9 @@
 mod dependence;
 mod length;
 
+ghost use mathlib.Core.Bool.{true};
 ghost use mathlib.Core.List.{List};
+ghost use mathlib.Core.Path.{_≡_};
 ghost use Prim.Native.Nat.{ℕ, _+_, _-_, _*_, _^_, _<_, _≤_, min};
 ghost use Rattle.text.specs.Text.{Wrote};
 ghost use Rattle.guards.specs.Guard.{print};
@@ -37,31 +39,31 @@ pub fn put_guard(
             return text::place_behind(at, long);
         }
     }
-    put_set(room, at, text, names, m, 0, 0, &few, &table)
+    let j = dependence::first(&table, m, 0, 0);
+    if m <= j {
+        return put_leaf(room, at, dependence::marked(&few, 0));
+    }
+    put_set(room, at, text, names, m, j, 0, &few, &table)
 }
 
-// Lays the guard of the set's products that the choices made for the features before i allow. It
-// splits on the first feature from i on that the table marks, and calls itself on both halves. From
-// feature m on the table marks none.
+// Lays the guard of the set's products that the choices made for the features before j allow, where the
+// table marks feature j for them: it splits on that feature, and calls itself on a half that depends on
+// a later one. From feature m on the table marks none.
 fn put_set(
     room: &mut [u8],
     at: usize,
     text: &[u8],
     names: &[[usize; 2]; 10],
     m: usize,
-    i: usize,
+    j: usize,
     chosen: usize,
     set: &[u64; 16],
     table: &[u64; 16],
 ) -> usize
-    requires { ⌜ (m ≤ 10) × (i ≤ m) × (chosen < 2 ^ i) ⌝ }
-    ensures { λ r. ⌜ ((n : ℕ) → Ends m n (now (set .entry)) (now (table .entry)) → Wrote (now (room .entry)) at (print (guardOf i (n - i) (λ q. inSet (now (set .entry)) (chosen + q * 2 ^ i))) (namesOf (now (text .entry)) (now (names .entry)) n) List.[]) (now (room .exit)) r) ⌝ }
+    requires { ⌜ (m ≤ 10) × (j < m) × (chosen < 2 ^ j) ⌝ }
+    ensures { λ r. ⌜ ((n : ℕ) → Ends m n (now (set .entry)) (now (table .entry)) → inSet (now (table .entry)) (2 ^ j + chosen) ≡ true → Wrote (now (room .entry)) at (print (guardOf j (n - j) (λ q. inSet (now (set .entry)) (chosen + q * 2 ^ j))) (namesOf (now (text .entry)) (now (names .entry)) n) List.[]) (now (room .exit)) r) ⌝ }
 {
     let text = &text[0..text.len()];
-    let j = dependence::first(table, m, i, chosen);
-    if m <= j {
-        return put_leaf(room, at, dependence::marked(set, chosen));
-    }
     let given = chosen + (1usize << j);
     let row = names[j];
     let from = row[NAME];
@@ -69,9 +71,19 @@ fn put_set(
     let a = text::put(room, at, b'(');
     let b = text::put_bytes(room, a, fields::piece(text, from, upto));
     let c = text::put(room, b, b'?');
-    let d = put_set(room, c, text, names, m, j + 1, given, set, table);
+    let x = dependence::first(table, m, j + 1, given);
+    let d = if m <= x {
+        put_leaf(room, c, dependence::marked(set, given))
+    } else {
+        put_set(room, c, text, names, m, x, given, set, table)
+    };
     let e = text::put(room, d, b':');
-    let f = put_set(room, e, text, names, m, j + 1, chosen, set, table);
+    let y = dependence::first(table, m, j + 1, chosen);
+    let f = if m <= y {
+        put_leaf(room, e, dependence::marked(set, chosen))
+    } else {
+        put_set(room, e, text, names, m, y, chosen, set, table)
+    };
     text::put(room, f, b')')
 }
 

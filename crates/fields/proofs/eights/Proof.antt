@@ -1,8 +1,10 @@
 -- `eights`. The invariant: up to place k both are alike, and k is no further than both reach. Assumes nothing.
 use Prim.Native.Nat.{_-_, _≤_}
 use native.Mathlib.Omega.{arith}
+use lib.Bits.{bitXor}
+use lib.Count.{trailing-le}
 use Rattle.fields.specs.Words.{BeginAlike}
-use Rattle.fields.proofs.Same.{alike-none, alike-less, alike-eight}
+use Rattle.fields.proofs.Same.{alike-none, alike-less, alike-below, alike-eight}
 use borrow.Author.Needs.{needs}
 use Rattle.fields.proofs.eights.Statement.{statement}
 use Rattle.fields.proofs.eights.Tie as tie
@@ -16,13 +18,21 @@ abbrev μ-loop : tie.MeasureT-loop
 loop-holds : tie.Need-loop-holds Inv-loop μ-loop
 loop-holds c = (search needs, alike-none _ _)
 
+cast-result : tie.Need-cast-result Inv-loop μ-loop
+cast-result c = record { fits = omega (arith, trailing-le 64 (bitXor (c .before .before .eight .result) (c .before .eight2 .result))) }
+
+add-result : tie.Need-add-result Inv-loop μ-loop
+add-result c = record { fits = omega (arith, trailing-le 64 (bitXor (c .before .before .eight .result) (c .before .eight2 .result))) }
+
 returns : tie.Need-returns Inv-loop μ-loop
-returns c = alike-less (c .before .before .before .before .loop .inv .1) (omega arith)
+returns c =
+    let below = alike-below (c .before .before .before .before .loop .inv .1) (c .before .before .eight .ensures) (c .before .eight2 .ensures) in
+    alike-less (below (omega arith) (omega arith)) (omega arith)
 
 loop-again : tie.Need-loop-again Inv-loop μ-loop
 loop-again c =
-    let further = alike-eight (c .before .before .before .before .loop .inv .1) (c .before .before .eight .ensures) (c .before .eight2 .ensures) (c .if1 .left) in
-    (search needs, alike-less (further (omega arith) (omega arith)) (omega arith))
+    let further = alike-eight (c .before .before .before .before .loop .inv .1) (c .before .before .eight .ensures) (c .before .eight2 .ensures) in
+    (search needs, alike-less (further (omega arith) (omega arith) (c .if1 .left)) (omega arith))
 
 returns-2 : tie.Need-returns-2 Inv-loop μ-loop
 returns-2 c = alike-less (c .before .loop .inv .1) (omega arith)
@@ -38,6 +48,8 @@ eights-spec =
     (λ c. search needs)
     (λ c κs. search needs)
     (λ c κs. search needs)
+    cast-result
+    add-result
     returns
     (λ c. search needs)
     (λ c. search needs)

@@ -1,11 +1,13 @@
--- `put_set`: a leaf where the table marks no feature that is left; else both halves, between the feature's name and the marks of a choice. The measure
--- is how many features are left of ten. Each return is shown of the text taken anew (`anew`). Assumes nothing.
+-- `put_set`: both halves, between the feature's name and the marks of a choice; each is a leaf where the table marks no feature that is left, else a set
+-- that is split on a later one, and the two ways meet (`laid-met`). The measure is how many features are left of ten. The return is shown of the text taken
+-- anew (`anew`). Assumes nothing.
+use mathlib.Core.Logic.{⊎-elim}
 use Prim.Native.Nat.{ℕ, _-_, _<_}
 use native.Mathlib.Omega.{arith}
 use borrow.Author.Needs.{needs}
 use borrow.Fn.Kinds.{In}
 use borrow.Fn.PlainCycle.{Measures, is, falls, and}
-use Rattle.splitting.proofs.Returns.{anew, laid-leaf, laid-split, chosen-small, chosen-below, leaf-below}
+use Rattle.splitting.proofs.Returns.{anew, laid-leaf, laid-from, laid-met, length-met, laid-split, chosen-small, chosen-below, below-later, below-next}
 use Rattle.splitting.proofs.put_set.Reads as put-set
 use Rattle.splitting.proofs.put_set.Kinds as put-set-kinds
 use Rattle.splitting.proofs.+put_set.Lts-put_set as put-set-lts
@@ -29,18 +31,18 @@ put-set-below t = and 5 put-set-kinds.ps (falls 5 put-set-kinds.ps _<_ μ-put-se
 
 pub +put-set-spec : {M : Type 1} → statement M
 +put-set-spec = close μ-put-set λ t. put-set-lts.spec (
-  first-reads.Asked,
-  first-reads.Learnt,
-  marked-reads.Asked,
-  marked-reads.Learnt,
-  put-leaf-reads.Asked,
-  put-leaf-reads.Learnt,
   put-reads.Asked,
   put-reads.Learnt,
   piece-reads.Asked,
   piece-reads.Learnt,
   put-bytes-reads.Asked,
   put-bytes-reads.Learnt,
+  first-reads.Asked,
+  first-reads.Learnt,
+  marked-reads.Asked,
+  marked-reads.Learnt,
+  put-leaf-reads.Asked,
+  put-leaf-reads.Learnt,
   put-set-below t,
   put-set.Post,
 )
@@ -49,31 +51,10 @@ pub +put-set-spec : {M : Type 1} → statement M
     (λ c. search needs)
     (λ c. search needs)
     (λ c. search needs)
-    (λ c κs. let start = c .before .before .before in (start .pre .1 .0, start .pre .1 .1, start .pre .1 .2))
-    (λ c κs. omega (
-      arith,
-      leaf-below _ _ _ (c .before .before .before .before .before .before .pre .1 .2)
-          (c .before .before .before .before .before .before .pre .1 .1) (c .before .before .before .before .before .before .pre .1 .0),
-    ))
-    (λ c κs. search needs)
-    (λ c. search needs)
-    (λ c n ends.
-    let leaf = c .before .before in
-    let asked = leaf .before in
-    let tested = asked .before .before in
-    let found = tested .before in
-    let start = found .before .before .before .before in
-    anew _ _ _ _
-    (laid-leaf _ (leaf .put-leaf .ensures) (asked .marked .ensures) (found .first .ensures .2) (tested .if1 .taken)
-    (start .pre .1 .1) (start .pre .1 .2) ends))
-    (λ c. omega (arith, c .if1 .left, c .before .before .before .before .before .pre .1 .0))
-    (λ c. omega (
-      arith,
-      chosen-small _ _ _ _ (c .before .before .before .before .before .pre .1 .2) (c .before .first .ensures .0) (c .if1 .left)
-          (c .before .before .before .before .before .pre .1 .0),
-    ))
-    (λ c. let h = c .before .before .before .before .before .pre .1 .0 in let left = c .if1 .left in search needs)
-    (λ c. omega (arith, c .if1 .left, c .before .before .before .before .before .pre .1 .0))
+    (λ c. let pre = c .before .before .before .pre .1 in omega (arith, pre .0, pre .1))
+    (λ c. let pre = c .before .before .before .pre .1 in omega (arith, chosen-small _ _ _ (pre .2) (pre .1) (pre .0)))
+    (λ c. let ten = c .before .before .before .pre .1 .0 in let left = c .before .before .before .pre .1 .1 in search needs)
+    (λ c. let pre = c .before .before .before .pre .1 in omega (arith, pre .0, pre .1))
     (λ c. search needs)
     (λ c. search needs)
     (λ c κs. search needs)
@@ -81,70 +62,96 @@ pub +put-set-spec : {M : Type 1} → statement M
     (λ c κs. search needs)
     (λ c κs. search needs)
     (λ c.
-    let tested = c .before .before .before .before .before .before .before .before .before .before .before .before .before .before .before in
-    let start = tested .before .before .before .before .before in
-    omega (arith, tested .if1 .left, start .pre .1 .0))
+    let row = c .before .before .before .before .before .before .before .before .before .before .before .before .before in
+    let pre = row .before .before .before .before .pre .1 in
+    omega (arith, pre .0, pre .1))
     (λ c κs.
-    let tested = c .before .before .before .before .before .before .before .before .before .before .before .before .before .before .before in
+    let row = c .before .before .before .before .before .before .before .before .before .before .before .before .before in
+    let pre = row .before .before .before .before .pre .1 in
+    (pre .0, omega (arith, pre .1), chosen-below _ _ _ (pre .2) (pre .1) (pre .0)))
+    (λ c κs.
+    let found = c .before .before in
+    let row = found .before .before .before .before .before .before .before .before .before .before .before .before .before .before in
+    let pre = row .before .before .before .before .pre .1 in
+    chosen-small _ _ _ (pre .2) (pre .1) (pre .0))
+    (λ c κs. search needs)
+    (λ c κs.
+    let tested = c .before in
     let found = tested .before in
-    let start = found .before .before .before .before in (
-      omega (arith, tested .if1 .left, start .pre .0, found .first .ensures .0, start .pre .1 .0),
+    let row = found .before .before .before .before .before .before .before .before .before .before .before .before .before .before in
+    let start = row .before .before .before .before in
+    let pre = start .pre .1 in (
+      omega (arith, start .pre .0, found .first .ensures .0, pre .0, tested .if1 .left),
       (
-        start .pre .1 .0,
+        pre .0,
         omega (arith, tested .if1 .left),
-        omega (arith, chosen-below _ _ _ _ (start .pre .1 .2) (found .first .ensures .0) (tested .if1 .left) (start .pre .1 .0)),
+        below-later _ _ _ (chosen-below _ _ _ (pre .2) (pre .1) (pre .0)) (found .first .ensures .0),
       ),
     ))
     (λ c κs. search needs)
     (λ c.
-    let tested = c .before .before .before .before .before .before .before .before .before .before .before .before .before .before .before .before
-    .before .before .before .before .before .before .before in
-    let start = tested .before .before .before .before .before in
-    omega (arith, tested .if1 .left, start .pre .1 .0))
+    let found = c .before .before .before .before .before in
+    let row = found .before .before .before .before .before .before .before .before .before .before .before .before .before .before in
+    let pre = row .before .before .before .before .pre .1 in
+    omega (arith, pre .0, pre .1))
     (λ c κs.
-    let tested = c .before .before .before .before .before .before .before .before .before .before .before .before .before .before .before .before
-    .before .before .before .before .before .before .before in
-    let found = tested .before in
-    let start = found .before .before .before .before in (
-      omega (arith, tested .if1 .left, start .pre .0, found .first .ensures .0, start .pre .1 .0),
-      (
-        start .pre .1 .0,
-        omega (arith, tested .if1 .left),
-        omega (arith, chosen-below _ _ _ _ (start .pre .1 .2) (found .first .ensures .0) (tested .if1 .left) (start .pre .1 .0)),
-      ),
+    let found = c .before .before .before .before .before in
+    let row = found .before .before .before .before .before .before .before .before .before .before .before .before .before .before in
+    let pre = row .before .before .before .before .pre .1 in
+    (pre .0, omega (arith, pre .1), below-next _ _ (pre .2)))
+    (λ c κs.
+    let found = c .before .before .before .before .before .before .before .before in
+    let row = found .before .before .before .before .before .before .before .before .before .before .before .before .before .before in
+    let pre = row .before .before .before .before .pre .1 in
+    below-later _ 10 _ (pre .2) (omega (arith, pre .0, pre .1)))
+    (λ c κs. search needs)
+    (λ c κs.
+    let tested = c .before in
+    let other = tested .before in
+    let found = other .before .before .before .before .before .before in
+    let row = found .before .before .before .before .before .before .before .before .before .before .before .before .before .before in
+    let start = row .before .before .before .before in
+    let pre = start .pre .1 in (
+      omega (arith, start .pre .0, other .first2 .ensures .0, pre .0, tested .if2 .left),
+      (pre .0, omega (arith, tested .if2 .left), below-later _ _ _ (pre .2) (omega (arith, other .first2 .ensures .0))),
     ))
     (λ c κs. search needs)
     (λ c.
-    let room8 = c .before in
-    let room7 = room8 .before .before .before .before in
-    let room6 = room7 .before .before .before .before in
-    let room5 = room6 .before .before .before .before in
-    let room4 = room5 .before .before .before .before in
-    let room3 = room4 .before .before .before .before in
-    let room2 = room3 .before .before .before .before .before in
-    omega (
-      arith,
-      room2 .room2 .given,
-      room3 .room3 .given,
-      room4 .room4 .given,
-      room5 .room5 .given,
-      room6 .room6 .given,
-      room7 .room7 .given,
-      room8 .room8 .given,
-    ))
-    (λ c n ends.
+    let room9 = c .before in
+    let met2 = room9 .before .before .before in
+    let room6 = met2 .before .before .before in
+    let met1 = room6 .before .before .before in
+    let room3 = met1 .before .before .before in
+    let room2 = room3 .before .before .before .before in
+    let room1 = room2 .before .before .before .before .before in
+    let given = ⊎-elim (λ w. length-met (w .6) (w .4 .given)) (λ w. length-met (w .5) (w .3 .given)) (met1 .if1 .came) in
+    let other = ⊎-elim (λ w. length-met (w .6) (w .4 .given)) (λ w. length-met (w .5) (w .3 .given)) (met2 .if2 .came) in
+    omega (arith, room1 .room .given, room2 .room2 .given, room3 .room3 .given, given, room6 .room6 .given, other, room9 .room9 .given))
+    (λ c n ends marked.
     let close = c .before .before in
-    let other = close .before .before .before .before in
-    let colon = other .before .before .before .before in
-    let given = colon .before .before .before .before in
-    let mark = given .before .before .before .before in
+    let met2 = close .before .before in
+    let found2 = met2 .before in
+    let colon = found2 .before .before .before in
+    let met1 = colon .before .before in
+    let found1 = met1 .before in
+    let mark = found1 .before .before .before in
     let name = mark .before .before .before .before in
-    let row-name = name .before in
-    let bracket = row-name .before .before .before .before in
-    let tested = bracket .before .before .before in
-    let found = tested .before in
-    let start = found .before .before .before .before in
+    let bracket = name .before .before .before .before .before in
+    let start = bracket .before .before .before .before .before .before in
+    let pre = start .pre .1 in
+    let given = found1 .first .ensures in
+    let other = found2 .first2 .ensures in
+    let below = chosen-below _ _ _ (pre .2) (pre .1) (pre .0) in
+    let same = below-next _ _ (pre .2) in
     anew _ _ _ _
-    (laid-split _ _ (bracket .put .ensures) (row-name .piece .ensures) (name .put-bytes .ensures) (mark .put2 .ensures) (given .put-set .ensures)
-    (colon .put3 .ensures) (other .put-set2 .ensures) (close .put4 .ensures) (found .first .ensures .2) (found .first .ensures .0)
-    (tested .if1 .left) (start .pre .1 .2) ends))
+    (laid-split _ _ (bracket .put .ensures) (name .before .piece .ensures) (name .put-bytes .ensures) (mark .put2 .ensures)
+    (⊎-elim
+    (λ w. laid-met (laid-leaf _ _ (w .3 .ensures) (w .2 .ensures) (given .2) (w .0 .taken) (omega (arith, pre .1)) below) (w .6) (w .7))
+    (λ w. laid-met (laid-from _ _ (w .2 .ensures) (given .2) (w .0 .left) (given .0) below) (w .5) (w .6))
+    (met1 .if1 .came))
+    (colon .put3 .ensures)
+    (⊎-elim
+    (λ w. laid-met (laid-leaf _ _ (w .3 .ensures) (w .2 .ensures) (other .2) (w .0 .taken) (omega (arith, pre .1)) same) (w .6) (w .7))
+    (λ w. laid-met (laid-from _ _ (w .2 .ensures) (other .2) (w .0 .left) (other .0) same) (w .5) (w .6))
+    (met2 .if2 .came))
+    (close .put4 .ensures) (pre .1) (pre .2) ends marked))

@@ -2,7 +2,7 @@
 -- place is behind as many bytes as are counted. All is shown of the text taken anew, and `anew` says it of the text. Assumes nothing.
 use mathlib.Core.Path.{refl}
 use native.Mathlib.Omega.{arith}
-use Rattle.splitting.proofs.Returns.{anew, laid-whole, whole-within}
+use Rattle.splitting.proofs.Returns.{anew, laid-leaf, laid-from, laid-whole, whole-within, below-later}
 use Rattle.splitting.proofs.Lengths.{laid-counted}
 use borrow.Author.Needs.{needs}
 use Rattle.splitting.proofs.put_guard.Statement.{statement}
@@ -34,20 +34,47 @@ returns c =
     (made .lay-table .ensures .1))
     (every .before .at-most .ensures) (cut .both .ensures) (every .all .ensures))
 
-put-set-requires : tie.Need-put-set-requires
-put-set-requires c κs =
-    let made = c .before .before .before .before in
+first-requires : tie.Need-first-requires
+first-requires c κs =
+    let made = c .before .before in
     (omega (arith, made .before .before .before .before .before .at-most .ensures, made .lay-table .ensures .0), omega arith, omega arith)
 
 returns-2 : tie.Need-returns-2
 returns-2 c =
     let laid = c .before .before in
-    let made = laid .before .before .before .before .before in
+    let asked = laid .before in
+    let tested = asked .before .before .before in
+    let found = tested .before in
+    let made = found .before .before .before in
     let cut = made .before .before .before in
     let every = cut .before in
     anew _ _ _ _
-    (laid-whole _ _ _ _ _ _ _ (laid .put-set .ensures _ (made .lay-table .ensures .1)) (every .before .at-most .ensures) (cut .both .ensures)
-    (every .all .ensures))
+    (laid-whole _ _ _ _ _ _ _
+    (laid-leaf _ _ (laid .put-leaf .ensures) (asked .marked .ensures) (found .first .ensures .2) (tested .if3 .taken) (omega arith) (omega arith) _
+    (made .lay-table .ensures .1))
+    (every .before .at-most .ensures) (cut .both .ensures) (every .all .ensures))
+
+put-set-requires : tie.Need-put-set-requires
+put-set-requires c κs =
+    let tested = c .before .before .before in
+    let made = tested .before .before .before .before in (
+      omega (arith, made .before .before .before .before .before .at-most .ensures, made .lay-table .ensures .0),
+      tested .if3 .left,
+      below-later 0 _ 0 (omega arith) (omega arith),
+    )
+
+returns-3 : tie.Need-returns-3
+returns-3 c =
+    let laid = c .before .before in
+    let tested = laid .before .before .before .before in
+    let found = tested .before in
+    let made = found .before .before .before in
+    let cut = made .before .before .before in
+    let every = cut .before in
+    anew _ _ _ _
+    (laid-whole _ _ _ _ _ _ _
+    (laid-from _ _ (laid .put-set .ensures) (found .first .ensures .2) (tested .if3 .left) (omega arith) (omega arith) _ (made .lay-table .ensures .1))
+    (every .before .at-most .ensures) (cut .both .ensures) (every .all .ensures))
 
 pub put-guard-spec : {M : Type 1} → statement M
 put-guard-spec =
@@ -63,6 +90,11 @@ put-guard-spec =
     guard-length-requires
     (λ c κs. search needs)
     returns
+    first-requires
+    (λ c κs. search needs)
+    (λ c κs. search needs)
+    (λ c. search needs)
+    returns-2
     put-set-requires
     (λ c. search needs)
-    returns-2)
+    returns-3)
