@@ -16,9 +16,10 @@ use Rattle.products.specs.Sets.{bit, has}
 use Rattle.products.proofs.Bits.{bit-or, past-bit, zero-bit}
 use Rattle.products.proofs.Laws.{has-le, has-at}
 use Rattle.splitting.specs.Splitting.{inSet}
-use Rattle.splitting.specs.Inside.{freeOf, Within, Tells, Word, Ends, Later, Plain}
+use Rattle.splitting.specs.Inside.{freeOf, Within, Tells, Word, Ends, Later, Typical}
 use Rattle.splitting.proofs.Laws.{free-at}
 use Rattle.splitting.proofs.Marks.{two-pow, told, Made}
+use Rattle.splitting.proofs.Typical.{typical-first}
 
 -- a feature from m on is not marked
 pub blank-mark : {m n k c : ℕ} {s t : List ℕ} → Ends m n s t → m ≤ k → k < n → c < 2 ^ k → inSet t (2 ^ k + c) ≡ false
@@ -84,17 +85,15 @@ module _ (t : List ℕ) where
 -- ---- the words behind the first
 
 -- the products of six features are all in the first word
-pub plain-few : {n : ℕ} {s : List ℕ} → Within n s → n ≤ 6 → Plain n s
-plain-few {n} {s} h ln = record { alike = λ _ w j k lw lj lk e. go w j k lw lj lk e }
+typical-few : {n : ℕ} {s : List ℕ} → Within n s → n ≤ 6 → Typical (getD s 0 0) s
+typical-few {n} {s} h ln = typical-first s go
   where
-    past : (w j : ℕ) → suc w < 16 → j < 64 → has s (suc w * 64 + j) ≡ 0
-    past w j lw lj = h .few (suc w * 64 + j) (omega arith) (omega (arith, pow-mono {i = n} {j = 6} ln))
+    past : (w j : ℕ) → suc w < 16 → j < 64 → bit (getD s (suc w) 0) j ≡ 0
+    past w j lw lj =
+        sym (has-at s (suc w) j lj) ∙ h .few (suc w * 64 + j) (omega arith) (omega (arith, pow-mono {i = n} {j = 6} ln))
 
-    go : (w j k : ℕ) → w < 16 → j < 64 → k < 64 → has s j ≡ has s k → has s (w * 64 + j) ≡ has s (w * 64 + k)
-    go zero j k lw lj lk e =
-        let a : 0 * 64 + j ≡ j = omega arith in
-        let b : 0 * 64 + k ≡ k = omega arith in
-        rw (a, b) e
+    go : (w j k : ℕ) → w < 16 → j < 64 → k < 64 → bit (getD s 0 0) j ≡ bit (getD s 0 0) k → bit (getD s w 0) j ≡ bit (getD s w 0) k
+    go zero j k lw lj lk e = e
     go (suc w) j k lw lj lk e = past w j lw lj ∙ sym (past w k lw lk)
 
 -- where none of the words behind the first has a bit, the first word stands for all
@@ -136,20 +135,18 @@ module _ {s t : List ℕ} (made : Made s t 16) where
             let f : c % 64 ≡ p % 64 = omega (arith, pow-add 2 6 d) in
             ap (has s) e ∙ made-same (6 + d) c (omega arith) (omega arith) lc ∙ ih c lc ∙ ap (has s) f
 
-    made-plain : Plain 6 s
-    made-plain = record {
-      alike = λ _ w j k lw lj lk e.
-          let a : (w * 64 + j) % 64 ≡ j = omega arith in
-          let b : (w * 64 + k) % 64 ≡ k = omega arith in
-          let x : has s (w * 64 + j) ≡ has s ((w * 64 + j) % 64) = folded 4 (omega arith) (w * 64 + j) (omega arith) in
-          let y : has s (w * 64 + k) ≡ has s ((w * 64 + k) % 64) = folded 4 (omega arith) (w * 64 + k) (omega arith) in
-          x ∙ ap (has s) a ∙ e ∙ ap (has s) (sym b) ∙ sym y;
-    }
+    made-typical : Typical (getD s 0 0) s
+    made-typical = typical-first s (λ w j k lw lj lk e. first w j lw lj ∙ e ∙ sym (first w k lw lk))
+      where
+        first : (w j : ℕ) → w < 16 → j < 64 → bit (getD s w 0) j ≡ bit (getD s 0 0) j
+        first w j lw lj =
+            let a : (w * 64 + j) % 64 ≡ 0 * 64 + j = omega arith in
+            sym (has-at s w j lj) ∙ folded 4 (omega arith) (w * 64 + j) (omega arith) ∙ ap (has s) a ∙ has-at s 0 j lj
 
 -- six features have no bit behind the first word
-pub later-none : {n : ℕ} {s t : List ℕ} → Within n s → n ≤ 6 → length t ≡ 16 → Plain n s × Later n n s t
+pub later-none : {n : ℕ} {s t : List ℕ} → Within n s → n ≤ 6 → length t ≡ 16 → (n ≤ 6 → Typical (getD s 0 0) s) × Later n n s t
 later-none {n} {s} {t} within ln long = (
-  plain-few within ln,
+  (λ _. typical-few within ln),
   record {
     most = omega arith;
     least = omega arith;
@@ -160,11 +157,12 @@ later-none {n} {s} {t} within ln long = (
 )
 
 -- the words behind the first are made, and those from 2 ^ r on have no bit
-pub later-all : {m n r w : ℕ} {s t : List ℕ} → Made s t w → 16 ≤ w → Within r t → 6 ≤ r → m ≡ min r n → 6 < n → n ≤ 10 → Plain m s × Later m n s t
+pub later-all : {m n r w : ℕ} {s t : List ℕ} → Made s t w → 16 ≤ w → Within r t → 6 ≤ r → m ≡ min r n → 6 < n → n ≤ 10
+    → (m ≤ 6 → Typical (getD s 0 0) s) × Later m n s t
 later-all {m} {n} {r} {w} {s} {t} made lw none least is many small =
     let e : w ≡ 16 = omega (arith, made .most) in
     let all : Made s t 16 = rw e at made in (
-      record { alike = λ lm. let six : r ≡ 6 = omega arith in made-plain all (rw six at none) .alike (omega arith) },
+      (λ lm. let six : r ≡ 6 = omega arith in made-typical all (rw six at none)),
       record {
         most = omega arith;
         least = omega arith;

@@ -1,5 +1,6 @@
 pub mod Laws
 pub mod Marks
+pub mod Typical
 pub mod Halving
 pub mod Ends
 pub mod Returns

@@ -19,7 +19,7 @@ use Rattle.products.specs.Sets.{bit, has}
 use Rattle.products.proofs.Bits.{bit-or, bit-xor, zero-bit}
 use Rattle.products.proofs.Laws.{has-at}
 use Rattle.splitting.specs.Splitting.{inSet, alike, all}
-use Rattle.splitting.specs.Inside.{freeOf, Word, Level, First, Plain}
+use Rattle.splitting.specs.Inside.{freeOf, Word, Level, First, Typical}
 use Rattle.splitting.proofs.Laws.{bool-ext, alike-eq, eq-alike, all-at, all-true, all-ext}
 
 -- ---- numbers
@@ -246,42 +246,33 @@ pub across-none : (s : List ℕ) (i : ℕ) → Across s i 0 0
 unfolding all
 across-none s i = record { most = omega arith; bits = λ k. eq-eqb (bit 0 k) 0 (zero-bit k) }
 
--- what the word of differences of word w says
-near-bit : (s : List ℕ) (i w k : ℕ) → i < 6 → clear (bitXor (getD s w 0) (getD s w 0 / 2 ^ step i)) k ≡ near s i k w
-near-bit s i w k li =
-    clear-xor (getD s w 0) (getD s w 0 / 2 ^ step i) k
-    ∙ ap (λ (n : ℕ). eqb (bit (getD s w 0) k) n)
-    (ap (λ (n : ℕ). bit (getD s w 0 / 2 ^ n) k) (step-is i (omega arith)) ∙ shr-bit (getD s w 0) (2 ^ i) k)
+-- what the word of differences of a word says
+near-bit : (x i k : ℕ) → i < 6 → clear (bitXor x (x / 2 ^ step i)) k ≡ eqb (bit x k) (bit x (2 ^ i + k))
+near-bit x i k li =
+    clear-xor x (x / 2 ^ step i) k
+    ∙ ap (λ (n : ℕ). eqb (bit x k) n) (ap (λ (n : ℕ). bit (x / 2 ^ n) k) (step-is i (omega arith)) ∙ shr-bit x (2 ^ i) k)
 
 pub across-more : {s : List ℕ} {i r w : ℕ} → Across s i r w → i < 6 → w < 16
     → Across s i (bitOr r (bitXor (getD s w 0) (getD s w 0 / 2 ^ step i))) (w + 1)
 unfolding all
 across-more {s} {i} {r} {w} h li lw = record {
   most = omega arith;
-  bits = λ k. rw add-one (clear-or r (bitXor (getD s w 0) (getD s w 0 / 2 ^ step i)) k ∙ ap₂ _&&_ (h .bits k) (near-bit s i w k li));
+  bits = λ k. rw add-one (clear-or r (bitXor (getD s w 0) (getD s w 0 / 2 ^ step i)) k ∙ ap₂ _&&_ (h .bits k) (near-bit (getD s w 0) i k li));
 }
 
 -- r tells of all sixteen words
 pub across-all : {s : List ℕ} {i r w : ℕ} → Across s i r w → 16 ≤ w → (k : ℕ) → 2 ^ i + k < 64 → clear r k ≡ all (near s i k) 16
 across-all {s} {i} {r} {w} h le k l = let e : w ≡ 16 = omega (arith, h .most) in rw e at (h .bits k)
 
--- where the first word stands for all, it tells of all
-pub across-first : {m i : ℕ} {s : List ℕ} → Plain m s → m ≤ 6 → i < 6 → (k : ℕ) → 2 ^ i + k < 64
-    → clear (bitXor (getD s 0 0) (getD s 0 0 / 2 ^ step i)) k ≡ all (near s i k) 16
-across-first {m} {i} {s} h lm li k lk =
-    near-bit s i 0 k li
-    ∙ bool-ext (near s i k 0) (all (near s i k) 16) (λ e. all-true (near s i k) 16 (λ w l. go e w l)) (λ e. all-at (near s i k) 16 e 0 (omega arith))
-  where
-    first-bit : (j : ℕ) → j < 64 → has s j ≡ bit (getD s 0 0) j
-    first-bit j lj = let e : j ≡ 0 * 64 + j = omega arith in ap (has s) e ∙ has-at s 0 j lj
-
-    go : near s i k 0 ≡ true → (w : ℕ) → w < 16 → near s i k w ≡ true
-    go e w l =
-        let lower : k < 64 = omega arith in
-        let one : has s k ≡ has s (2 ^ i + k) =
-        first-bit k lower ∙ eqb-true (bit (getD s 0 0) k) (bit (getD s 0 0) (2 ^ i + k)) e ∙ sym (first-bit (2 ^ i + k) lk) in
-        eq-eqb (bit (getD s w 0) k) (bit (getD s w 0) (2 ^ i + k))
-        (sym (has-at s w k lower) ∙ h .alike lm w k (2 ^ i + k) l lower lk one ∙ has-at s w (2 ^ i + k) lk)
+-- a word that stands for all tells of all
+pub across-typical : {x i : ℕ} {s : List ℕ} → Typical x s → i < 6 → (k : ℕ) → 2 ^ i + k < 64 → clear (bitXor x (x / 2 ^ step i)) k ≡ all (near s i k) 16
+across-typical {x} {i} {s} h li k lk =
+    near-bit x i k li
+    ∙ bool-ext (eqb (bit x k) (bit x (2 ^ i + k))) (all (near s i k) 16)
+    (λ e. all-true (near s i k) 16 (λ w l. eq-eqb (bit (getD s w 0) k) (bit (getD s w 0) (2 ^ i + k))
+    (h .every w k (2 ^ i + k) l (omega arith) lk (eqb-true (bit x k) (bit x (2 ^ i + k)) e))))
+    (λ e. eq-eqb (bit x k) (bit x (2 ^ i + k))
+    (h .joins .some k (2 ^ i + k) (λ w l. eqb-true (bit (getD s w 0) k) (bit (getD s w 0) (2 ^ i + k)) (all-at (near s i k) 16 e w l))))
 
 abbrev nearAt : List ℕ → ℕ → ℕ → Bool
 nearAt s i p = near s i (p % 64) (p / 64)

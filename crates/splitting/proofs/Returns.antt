@@ -174,9 +174,6 @@ chosen-small j n c lc lj ln = omega (arith, chosen-below j n c lc lj ln, pow-mon
 pub below-later : (i j c : ℕ) → c < 2 ^ i → i ≤ j → c < 2 ^ j
 below-later i j c lc le = omega (arith, pow-mono {i = i} {j = j} le)
 
-pub below-next : (j c : ℕ) → c < 2 ^ j → c < 2 ^ (j + 1)
-below-next j c lc = below-later j (j + 1) c lc (omega arith)
-
 -- the first n features' products of the set
 pub whole-within : (n : ℕ) (set every cut : List ℕ) → ((p : ℕ) → p < 1024 → has cut p ≡ min (has set p) (has every p))
     → ((p : ℕ) → p < 1024 → has every p ≡ oneIf (ltb p (2 ^ n))) → Within n cut

@@ -2,6 +2,7 @@
 -- these are definitions.
 use mathlib.Core.Bool.{Bool, true, false}
 use mathlib.Core.List.{List, [], _∷_}
+use mathlib.Core.Logic.{_⊎_}
 use mathlib.Core.Path.{_≡_}
 use Prim.Native.Nat.{ℕ, _+_, _*_, _-_, _^_, _<_, _≤_, min}
 use lib.Dec.{eqb}
@@ -53,9 +54,18 @@ pub record Later (m n : ℕ) (set t : List ℕ) : Type 0 where
   pub words : (v : ℕ) → 1 ≤ v → v < 16 → v * 64 < 2 ^ n → Word set v (getD t v 0)
   pub blank : (p : ℕ) → 2 ^ m ≤ p → p < 2 ^ n → has t p ≡ 0
 
--- where m is at most 6, the first word of the set stands for all: two places that it has alike, each word has alike
-pub record Plain (m : ℕ) (set : List ℕ) : Type 0 where
-  pub alike : m ≤ 6 → (w j k : ℕ) → w < 16 → j < 64 → k < 64 → has set j ≡ has set k → has set (w * 64 + j) ≡ has set (w * 64 + k)
+-- where the first n words of the set have two places alike, so has x
+pub record Joins (x : ℕ) (set : List ℕ) (n : ℕ) : Type 0 where
+  pub some : (j k : ℕ) → ((w : ℕ) → w < n → bit (getD set w 0) j ≡ bit (getD set w 0) k) → bit x j ≡ bit x k
+
+-- each of the first n words of the set is 0 or x
+pub record Repeats (x : ℕ) (set : List ℕ) (n : ℕ) : Type 0 where
+  pub each : (w : ℕ) → w < n → (getD set w 0 ≡ 0) ⊎ (getD set w 0 ≡ x)
+
+-- x stands for all words of the set: it has two places alike exactly where each of them has
+pub record Typical (x : ℕ) (set : List ℕ) : Type 0 where
+  pub joins : Joins x set 16
+  pub every : (w j k : ℕ) → w < 16 → j < 64 → k < 64 → bit x j ≡ bit x k → bit (getD set w 0) j ≡ bit (getD set w 0) k
 
 abbrev pub leafText : Bool → List ℕ
 leafText true = 49 ∷ []

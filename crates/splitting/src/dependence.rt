@@ -1,11 +1,12 @@
 // On which features a set depends, once the earlier ones are decided: a table made once for a set.
+ghost use mathlib.Core.Bool.{true};
 ghost use mathlib.Core.Path.{_≡_};
 ghost use Prim.Native.Nat.{ℕ, _+_, _^_, _<_, _≤_};
 ghost use lib.Dec.{eqb};
 ghost use lib.ListN.{getD, length};
 ghost use Rattle.products.specs.Sets.{bit};
 ghost use Rattle.splitting.specs.Splitting.{inSet, all};
-ghost use Rattle.splitting.specs.Inside.{Within, Word, Level, First, Ends, Later, Plain};
+ghost use Rattle.splitting.specs.Inside.{Within, Word, Level, First, Ends, Later, Joins, Repeats, Typical};
 
 // Lays the table: bit 2 ^ i + c of it, for i below n, is 1 exactly if the set depends on feature i among the
 // products whose first i features make the number c. Six features have all their bits in word 0, and the
@@ -49,7 +50,7 @@ pub(crate) fn marked(words: &[u64; 16], p: usize) -> bool
 // Lays the words behind the first, and answers behind how many features they mark none: 6 at least, or n.
 fn lay_later(set: &[u64; 16], n: usize, table: &mut [u64; 16]) -> usize
     requires { ⌜ (n ≤ 10) × Within n (now set) × (length (now table) ≡ 16) ⌝ }
-    ensures { λ m. ⌜ Plain m (now (set .entry)) × Later m n (now (set .entry)) (now (table .exit)) ⌝ }
+    ensures { λ m. ⌜ (m ≤ 6 → Typical (getD (now (set .entry)) 0 0) (now (set .entry))) × Later m n (now (set .entry)) (now (table .exit)) ⌝ }
 {
     if n <= 6 {
         return n;
@@ -106,23 +107,75 @@ fn last_of_six(x: u64) -> usize
 
 // Word 0 of the table: features 0 to 5, the bits of each behind those of the one before.
 fn first_word(set: &[u64; 16], m: usize) -> u64
-    requires { ⌜ Plain m (now set) ⌝ }
+    requires { ⌜ (m ≤ 6 → Typical (getD (now set) 0 0) (now set)) ⌝ }
     ensures { λ r. ⌜ Word (now (set .entry)) 0 r ⌝ }
 {
-    let a = low_level(set, m, 0) % 2 * 2;
-    let b = a + low_level(set, m, 1) % 4 * 4;
-    let c = b + low_level(set, m, 2) % 16 * 16;
-    let d = c + low_level(set, m, 3) % 256 * 256;
-    let e = d + low_level(set, m, 4) % 65536 * 65536;
-    e + low_level(set, m, 5) % 4294967296 * 4294967296
+    let t = typical(set, m);
+    let one = t.one;
+    let x = t.word;
+    let a = low_level(set, one, x, 0) % 2 * 2;
+    let b = a + low_level(set, one, x, 1) % 4 * 4;
+    let c = b + low_level(set, one, x, 2) % 16 * 16;
+    let d = c + low_level(set, one, x, 3) % 256 * 256;
+    let e = d + low_level(set, one, x, 4) % 65536 * 65536;
+    e + low_level(set, one, x, 5) % 4294967296 * 4294967296
+}
+
+// A word, and whether it stands for all sixteen of a set.
+struct Stand {
+    one: bool,
+    word: u64,
+}
+
+// A word that stands for all: the first where six features are enough; else all joined, where no word is other
+// than that or 0, as it is of a guard that asks for later features by `&`.
+fn typical(set: &[u64; 16], m: usize) -> Stand
+    requires { ⌜ (m ≤ 6 → Typical (getD (now set) 0 0) (now set)) ⌝ }
+    ensures { λ r. ⌜ (r .one ≡ true → Typical (r .word) (now (set .entry))) ⌝ }
+{
+    if m <= 6 {
+        return Stand { one: true, word: set[0] };
+    }
+    let word = joined(set);
+    let one = repeated(set, word);
+    Stand { one, word }
+}
+
+// All words of the set joined.
+fn joined(set: &[u64; 16]) -> u64
+    ensures { λ r. ⌜ Joins r (now (set .entry)) 16 ⌝ }
+{
+    let mut r = 0u64;
+    let mut w = 0;
+    while w < 16 {
+        r = r | set[w];
+        w += 1;
+    }
+    r
+}
+
+// Whether each word of the set is 0 or x.
+fn repeated(set: &[u64; 16], x: u64) -> bool
+    ensures { λ r. ⌜ (r ≡ true → Repeats x (now (set .entry)) 16) ⌝ }
+{
+    let mut w = 0;
+    while w < 16 {
+        if set[w] != 0 {
+            if set[w] != x {
+                return false;
+            }
+        }
+        w += 1;
+    }
+    true
 }
 
 // Feature i below 6: whatever the later features are, brought together on the first bits.
-fn low_level(set: &[u64; 16], m: usize, i: usize) -> u64
-    requires { ⌜ (i < 6) × Plain m (now set) ⌝ }
+fn low_level(set: &[u64; 16], one: bool, x: u64, i: usize) -> u64
+    requires { ⌜ (i < 6) × (one ≡ true → Typical x (now set)) ⌝ }
     ensures { λ r. ⌜ Level (now (set .entry)) i r ⌝ }
 {
-    let mut r = across(set, m, i);
+    let mut r = across(set, one, x, i);
     let mut j = 5;
     while i < j {
         r = r | (r >> (1u64 << j));
@@ -131,14 +184,14 @@ fn low_level(set: &[u64; 16], m: usize, i: usize) -> u64
     r
 }
 
-// Bit k: in some word bits k and k + 2 ^ i differ. Where six features are enough, word 0 tells of all words.
-fn across(set: &[u64; 16], m: usize, i: usize) -> u64
-    requires { ⌜ (i < 6) × Plain m (now set) ⌝ }
+// Bit k: in some word bits k and k + 2 ^ i differ. Where one word stands for all, that tells it.
+fn across(set: &[u64; 16], one: bool, x: u64, i: usize) -> u64
+    requires { ⌜ (i < 6) × (one ≡ true → Typical x (now set)) ⌝ }
     ensures { λ r. ⌜ ((k : ℕ) → 2 ^ i + k < 64 → eqb (bit r k) 0 ≡ all (λ w. eqb (bit (getD (now (set .entry)) w 0) k) (bit (getD (now (set .entry)) w 0) (2 ^ i + k))) 16) ⌝ }
 {
     let step = 1u64 << i;
-    if m <= 6 {
-        return set[0] ^ (set[0] >> step);
+    if one {
+        return x ^ (x >> step);
     }
     let mut r = 0u64;
     let mut w = 0;

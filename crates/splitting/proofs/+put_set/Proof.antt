@@ -7,7 +7,7 @@ use native.Mathlib.Omega.{arith}
 use borrow.Author.Needs.{needs}
 use borrow.Fn.Kinds.{In}
 use borrow.Fn.PlainCycle.{Measures, is, falls, and}
-use Rattle.splitting.proofs.Returns.{anew, laid-leaf, laid-from, laid-met, length-met, laid-split, chosen-small, chosen-below, below-later, below-next}
+use Rattle.splitting.proofs.Returns.{anew, laid-leaf, laid-from, laid-met, length-met, laid-split, chosen-small, chosen-below, below-later}
 use Rattle.splitting.proofs.put_set.Reads as put-set
 use Rattle.splitting.proofs.put_set.Kinds as put-set-kinds
 use Rattle.splitting.proofs.+put_set.Lts-put_set as put-set-lts
@@ -68,12 +68,12 @@ pub +put-set-spec : {M : Type 1} → statement M
     (λ c κs.
     let row = c .before .before .before .before .before .before .before .before .before .before .before .before .before in
     let pre = row .before .before .before .before .pre .1 in
-    (pre .0, omega (arith, pre .1), chosen-below _ _ _ (pre .2) (pre .1) (pre .0)))
+    (pre .0, omega (arith, pre .1), omega (arith, chosen-below _ _ _ (pre .2) (pre .1) (pre .0))))
     (λ c κs.
     let found = c .before .before in
     let row = found .before .before .before .before .before .before .before .before .before .before .before .before .before .before in
     let pre = row .before .before .before .before .pre .1 in
-    chosen-small _ _ _ (pre .2) (pre .1) (pre .0))
+    omega (arith, chosen-small _ _ _ (pre .2) (pre .1) (pre .0)))
     (λ c κs. search needs)
     (λ c κs.
     let tested = c .before in
@@ -85,7 +85,7 @@ pub +put-set-spec : {M : Type 1} → statement M
       (
         pre .0,
         omega (arith, tested .if1 .left),
-        below-later _ _ _ (chosen-below _ _ _ (pre .2) (pre .1) (pre .0)) (found .first .ensures .0),
+        omega (arith, below-later _ _ _ (chosen-below _ _ _ (pre .2) (pre .1) (pre .0)) (found .first .ensures .0)),
       ),
     ))
     (λ c κs. search needs)
@@ -98,12 +98,12 @@ pub +put-set-spec : {M : Type 1} → statement M
     let found = c .before .before .before .before .before in
     let row = found .before .before .before .before .before .before .before .before .before .before .before .before .before .before in
     let pre = row .before .before .before .before .pre .1 in
-    (pre .0, omega (arith, pre .1), below-next _ _ (pre .2)))
+    (pre .0, omega (arith, pre .1), omega (arith, chosen-below _ _ _ (pre .2) (pre .1) (pre .0))))
     (λ c κs.
     let found = c .before .before .before .before .before .before .before .before in
     let row = found .before .before .before .before .before .before .before .before .before .before .before .before .before .before in
     let pre = row .before .before .before .before .pre .1 in
-    below-later _ 10 _ (pre .2) (omega (arith, pre .0, pre .1)))
+    omega (arith, chosen-small _ _ _ (pre .2) (pre .1) (pre .0)))
     (λ c κs. search needs)
     (λ c κs.
     let tested = c .before in
@@ -113,7 +113,11 @@ pub +put-set-spec : {M : Type 1} → statement M
     let start = row .before .before .before .before in
     let pre = start .pre .1 in (
       omega (arith, start .pre .0, other .first2 .ensures .0, pre .0, tested .if2 .left),
-      (pre .0, omega (arith, tested .if2 .left), below-later _ _ _ (pre .2) (omega (arith, other .first2 .ensures .0))),
+      (
+        pre .0,
+        omega (arith, tested .if2 .left),
+        omega (arith, below-later _ _ _ (chosen-below _ _ _ (pre .2) (pre .1) (pre .0)) (other .first2 .ensures .0)),
+      ),
     ))
     (λ c κs. search needs)
     (λ c.
@@ -142,7 +146,6 @@ pub +put-set-spec : {M : Type 1} → statement M
     let given = found1 .first .ensures in
     let other = found2 .first2 .ensures in
     let below = chosen-below _ _ _ (pre .2) (pre .1) (pre .0) in
-    let same = below-next _ _ (pre .2) in
     anew _ _ _ _
     (laid-split _ _ (bracket .put .ensures) (name .before .piece .ensures) (name .put-bytes .ensures) (mark .put2 .ensures)
     (⊎-elim
@@ -151,7 +154,7 @@ pub +put-set-spec : {M : Type 1} → statement M
     (met1 .if1 .came))
     (colon .put3 .ensures)
     (⊎-elim
-    (λ w. laid-met (laid-leaf _ _ (w .3 .ensures) (w .2 .ensures) (other .2) (w .0 .taken) (omega (arith, pre .1)) same) (w .6) (w .7))
-    (λ w. laid-met (laid-from _ _ (w .2 .ensures) (other .2) (w .0 .left) (other .0) same) (w .5) (w .6))
+    (λ w. laid-met (laid-leaf _ _ (w .3 .ensures) (w .2 .ensures) (other .2) (w .0 .taken) (omega (arith, pre .1)) (omega (arith, below))) (w .6) (w .7))
+    (λ w. laid-met (laid-from _ _ (w .2 .ensures) (other .2) (w .0 .left) (other .0) (omega (arith, below))) (w .5) (w .6))
     (met2 .if2 .came))
     (close .put4 .ensures) (pre .1) (pre .2) ends marked))

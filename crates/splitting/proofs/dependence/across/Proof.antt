@@ -1,22 +1,22 @@
--- `across` meets its contract. The loop's invariant: the words so far. Of six features the first word is enough. Assumes nothing.
+-- `across` meets its contract. The loop's invariant: the words so far. A word that stands for all is enough. Assumes nothing.
 use Prim.Native.Nat.{_-_}
 use native.Mathlib.Omega.{arith}
-use Rattle.splitting.proofs.Marks.{step-small, Across, across-none, across-more, across-all, across-first}
+use Rattle.splitting.proofs.Marks.{step-small, Across, across-none, across-more, across-all, across-typical}
 use borrow.Author.Needs.{needs}
 use Rattle.splitting.proofs.dependence.across.Statement.{statement}
 use Rattle.splitting.proofs.dependence.across.Tie as tie
 
 abbrev Inv-loop : tie.InvT-loop
-Inv-loop set n i step r₀ w₀ r w = Across set i r w
+Inv-loop set one x i step r₀ w₀ r w = Across set i r w
 
 abbrev μ-loop : tie.MeasureT-loop
-μ-loop set n i step r₀ w₀ r w = 16 - w
+μ-loop set one x i step r₀ w₀ r w = 16 - w
 
 shr-result : tie.Need-shr-result Inv-loop μ-loop
-shr-result c = step-small _ (c .before .before .before .pre .0)
+shr-result c = step-small _ (c .before .pre .0)
 
 returns : tie.Need-returns Inv-loop μ-loop
-returns c = across-first (c .before .before .before .pre .1) (omega arith) (c .before .before .before .pre .0)
+returns c = across-typical (c .before .pre .1 (c .if1 .taken)) (c .before .pre .0)
 
 loop-holds : tie.Need-loop-holds Inv-loop μ-loop
 loop-holds c = across-none _ _
@@ -36,8 +36,6 @@ across-spec =
     (tie.spec
     Inv-loop
     μ-loop
-    (λ c. search needs)
-    (λ c. search needs)
     (λ c. search needs)
     shr-result
     returns

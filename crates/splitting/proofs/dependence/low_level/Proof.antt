@@ -6,10 +6,10 @@ use Rattle.splitting.proofs.dependence.low_level.Statement.{statement}
 use Rattle.splitting.proofs.dependence.low_level.Tie as tie
 
 abbrev Inv-loop : tie.InvT-loop
-Inv-loop set n i r₀ j₀ r j = Brought set i r j
+Inv-loop set one x i r₀ j₀ r j = Brought set i r j
 
 abbrev μ-loop : tie.MeasureT-loop
-μ-loop set n i r₀ j₀ r j = j
+μ-loop set one x i r₀ j₀ r j = j
 
 loop-holds : tie.Need-loop-holds Inv-loop μ-loop
 loop-holds c = brought-first (c .across .ensures) (c .before .pre .0)
