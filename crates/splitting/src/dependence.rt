@@ -134,7 +134,10 @@ fn typical(set: &[u64; 16], m: usize) -> Stand
     ensures { λ r. ⌜ (r .one ≡ true → Typical (r .word) (now (set .entry))) ⌝ }
 {
     if m <= 6 {
-        return Stand { one: true, word: set[0] };
+        return Stand {
+            one: true,
+            word: set[0],
+        };
     }
     let word = joined(set);
     let one = repeated(set, word);
