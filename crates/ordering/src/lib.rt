@@ -28,9 +28,12 @@ pub fn order_moves(
     let rows = counts::at_most(most, moves.len());
     let n = counts::at_most(rows, guards.len());
     let mut kept = 0;
+    let mut near = 0;
     let mut i = 0;
     while i < n {
-        kept = order_row(text, i, moves, guards, sets, order, kept);
+        let r = order_row(text, i, moves, guards, sets, order, kept, near);
+        kept = r.kept;
+        near = r.place;
         i += 1;
     }
     kept
@@ -42,8 +45,15 @@ fn all_places(order: [u8; 256])
     ensures { λ _. ⌜ length order ≡ 256 ⌝ }
 {}
 
+// How many rows stand in order, and where the last one was put.
+struct Ordered {
+    kept: usize,
+    place: usize,
+}
+
 // Puts row i among the first `kept` of `order`, if some product makes its move; the answer is how many
-// there are then.
+// there are then. Rows often come in order, so the place is looked for from `near` on, where the row
+// before was put.
 fn order_row(
     text: &[u8],
     i: usize,
@@ -52,34 +62,53 @@ fn order_row(
     sets: &[[u64; 16]],
     order: &mut [u8; 256],
     kept: usize,
-) -> usize
+    near: usize,
+) -> Ordered
     requires { ⌜ (kept ≤ i) × (i < 256) × (i < length (now moves)) × (i < length (now guards)) ⌝ }
-    ensures { λ r. ⌜ ((first : List ℕ) → length first ≡ 256 → Orders (keyAt (now (text .entry)) (now (moves .entry))) (MadeRow (now (moves .entry)) (now (guards .entry)) (now (sets .entry))) i first (now (order .entry)) kept → Orders (keyAt (now (text .entry)) (now (moves .entry))) (MadeRow (now (moves .entry)) (now (guards .entry)) (now (sets .entry))) (i + 1) first (now (order .exit)) r) × (r ≤ i + 1) ⌝ }
+    ensures { λ r. ⌜ ((first : List ℕ) → length first ≡ 256 → Orders (keyAt (now (text .entry)) (now (moves .entry))) (MadeRow (now (moves .entry)) (now (guards .entry)) (now (sets .entry))) i first (now (order .entry)) kept → Orders (keyAt (now (text .entry)) (now (moves .entry))) (MadeRow (now (moves .entry)) (now (guards .entry)) (now (sets .entry))) (i + 1) first (now (order .exit)) (r .kept)) × (r .kept ≤ i + 1) ⌝ }
 {
     let row = moves[i];
     let from = row[FROM] % 64;
     if sets.len() <= from {
-        return kept;
+        return Ordered { kept, place: near };
     }
     if !members::meets(&sets[from], &guards[i]) {
-        return kept;
+        return Ordered { kept, place: near };
     }
-    insert(text, moves, order, kept, i);
-    kept + 1
+    let place = insert(text, moves, order, kept, i, near);
+    Ordered {
+        kept: kept + 1,
+        place,
+    }
 }
 
-// Puts row x in its place among the first k of `order`, which are in order.
-fn insert(text: &[u8], moves: &[[usize; 6]], order: &mut [u8; 256], k: usize, x: usize)
+// Puts row x in its place among the first k of `order`, which are in order, and answers the place.
+fn insert(
+    text: &[u8],
+    moves: &[[usize; 6]],
+    order: &mut [u8; 256],
+    k: usize,
+    x: usize,
+    near: usize,
+) -> usize
     requires { ⌜ (k < 256) × (x < 256) ⌝ }
     ensures { λ _. ⌜ (length (now (order .entry)) ≡ 256 → Level (keyAt (now (text .entry)) (now (moves .entry))) k (now (order .entry)) → now (order .exit) ≡ insertBy (keyAt (now (text .entry)) (now (moves .entry))) x (take k (now (order .entry))) ++ drop (k + 1) (now (order .entry))) ⌝ }
 {
-    let place = place_of(text, moves, order, k, x);
+    let place = place_of(text, moves, order, k, x, near);
     shift(order, place, k, x);
+    place
 }
 
-// How many of the first k of `order`, which are in order, stay in front of row x: each turn halves what is
-// left between those that stay and those that x comes before.
-fn place_of(text: &[u8], moves: &[[usize; 6]], order: &[u8; 256], k: usize, x: usize) -> usize
+// How many of the first k of `order`, which are in order, stay in front of row x: each turn looks at one of
+// those that are left between those that stay and those that x comes before.
+fn place_of(
+    text: &[u8],
+    moves: &[[usize; 6]],
+    order: &[u8; 256],
+    k: usize,
+    x: usize,
+    near: usize,
+) -> usize
     requires { ⌜ k < 256 ⌝ }
     ensures { λ r. ⌜ (r ≤ k) × (Level (keyAt (now (text .entry)) (now (moves .entry))) k (now (order .entry)) → Between (keyAt (now (text .entry)) (now (moves .entry))) x k (now (order .entry)) r r) ⌝ }
 {
@@ -87,15 +116,31 @@ fn place_of(text: &[u8], moves: &[[usize; 6]], order: &[u8; 256], k: usize, x: u
     let mut low = 0;
     let mut high = k;
     while low < high {
-        let middle = low + (high - low) / 2;
-        let y = number(order[middle]);
+        let at = look(low, high, near, k);
+        let y = number(order[at]);
         if before(text, row, row_at(moves, y % 256)) {
-            high = middle;
+            high = at;
         } else {
-            low = middle + 1;
+            low = at + 1;
         }
     }
     low
+}
+
+// A place from `low` on and before `high`: first `near`; then, as long as nothing stands behind, ever further
+// from there; else the middle. Nothing hangs on the choice but speed.
+fn look(low: usize, high: usize, near: usize, k: usize) -> usize
+    requires { ⌜ (low < high) × (high < 256) ⌝ }
+    ensures { λ r. ⌜ (low ≤ r) × (r < high) ⌝ }
+{
+    let middle = low + (high - low) / 2;
+    if high < k {
+        return middle;
+    }
+    if low <= near {
+        return counts::at_most(near, high - 1);
+    }
+    counts::at_most(low + (low - near - 1), middle)
 }
 
 // The number of a row, as wide as tables ask for.

@@ -8,10 +8,10 @@ use Rattle.ordering.proofs.order_moves.Statement.{statement}
 use Rattle.ordering.proofs.order_moves.Tie as tie
 
 abbrev Inv-loop : tie.InvT-loop
-Inv-loop text count moves guards sets order₀ most rows n kept₀ i₀ order kept i = (i ≤ n) × (kept ≤ i) × Orders (keyAt text moves) (MadeRow moves guards sets) i order₀ order kept
+Inv-loop text count moves guards sets order₀ most rows n kept₀ near₀ i₀ order kept near i = (i ≤ n) × (kept ≤ i) × Orders (keyAt text moves) (MadeRow moves guards sets) i order₀ order kept
 
 abbrev μ-loop : tie.MeasureT-loop
-μ-loop text count moves guards sets order₀ most rows n kept₀ i₀ order kept i = n - i
+μ-loop text count moves guards sets order₀ most rows n kept₀ near₀ i₀ order kept near i = n - i
 
 loop-holds : tie.Need-loop-holds Inv-loop μ-loop
 loop-holds c = (search needs, search needs, orders-start _)

@@ -10,10 +10,10 @@ use Rattle.ordering.proofs.place_of.Statement.{statement}
 use Rattle.ordering.proofs.place_of.Tie as tie
 
 abbrev Inv-loop : tie.InvT-loop
-Inv-loop text moves order k x row low₀ high₀ low high = (low ≤ high) × (high ≤ k) × (Level (keyAt text moves) k order → Between (keyAt text moves) x k order low high)
+Inv-loop text moves order k x near row low₀ high₀ low high = (low ≤ high) × (high ≤ k) × (Level (keyAt text moves) k order → Between (keyAt text moves) x k order low high)
 
 abbrev μ-loop : tie.MeasureT-loop
-μ-loop text moves order k x row low₀ high₀ low high = high - low
+μ-loop text moves order k x near row low₀ high₀ low high = high - low
 
 loop-holds : tie.Need-loop-holds Inv-loop μ-loop
 loop-holds c = (search needs, search needs, λ v. between-start)
@@ -26,11 +26,11 @@ loop-again c = (
   λ v.
       between-front
       v
-      (c .before .before .before .before .before .before .loop .inv .2 v)
+      (c .before .before .before .before .before .before .before .loop .inv .2 v)
       (omega arith)
       (c .before .before .before .number .ensures)
       (c .before .before2 .ensures
-      ∙ ap₂ lessBytes (c .before .before .before .before .before .before .before .row-at .ensures _) (c .before .before .row-at2 .ensures _))
+      ∙ ap₂ lessBytes (c .before .before .before .before .before .before .before .before .row-at .ensures _) (c .before .before .row-at2 .ensures _))
       (c .if1 .taken),
 )
 
@@ -42,11 +42,11 @@ loop-again-2 c = (
   λ v.
       between-back
       v
-      (c .before .before .before .before .before .before .loop .inv .2 v)
+      (c .before .before .before .before .before .before .before .loop .inv .2 v)
       (omega arith)
       (c .before .before .before .number .ensures)
       (c .before .before2 .ensures
-      ∙ ap₂ lessBytes (c .before .before .before .before .before .before .before .row-at .ensures _) (c .before .before .row-at2 .ensures _))
+      ∙ ap₂ lessBytes (c .before .before .before .before .before .before .before .before .row-at .ensures _) (c .before .before .row-at2 .ensures _))
       (c .if1 .left),
 )
 
@@ -61,8 +61,7 @@ place-of-spec =
     μ-loop
     (λ c κs. search needs)
     loop-holds
-    (λ c. search needs)
-    (λ c. search needs)
+    (λ c κs. search needs)
     (λ c. search needs)
     (λ c κs. search needs)
     (λ c κs. search needs)
