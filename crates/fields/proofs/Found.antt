@@ -7,7 +7,7 @@ use native.Mathlib.Omega.{arith}
 use lib.Count.{trailingZeros, trailing-of-zero}
 use lib.ListN.{length, getD}
 use Rattle.fields.specs.Bytes.{FirstAt}
-use Rattle.fields.specs.Words.{FirstOf}
+use Rattle.fields.specs.Inside.{FirstOf}
 use Rattle.fields.proofs.Words.{zeros-some}
 
 -- ---- from place to place

@@ -12,7 +12,7 @@ use lib.Dec.{eqb}
 use lib.ListN.{length, getD, take, drop, drop-of-length-le, length-drop}
 use lib.Seq.{take-suc, take-take}
 use Rattle.fields.specs.Bytes.{sameBytes, sharedBytes}
-use Rattle.fields.specs.Words.{Digits, BeginAlike}
+use Rattle.fields.specs.Inside.{Digits, BeginAlike}
 use Rattle.fields.proofs.Parts.{headed}
 use Rattle.fields.proofs.Words.{digits-below}
 

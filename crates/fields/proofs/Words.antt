@@ -7,7 +7,7 @@ use native.Mathlib.Omega.{arith}
 use lib.Arith.{mod-mul}
 use lib.Bits.{bitAnd, bitXor, and-block, xor-block, xor-lt, and-le-l, and-le-r, and-mask, and-comm, and-shifted, xor-add-and, xor-self, shifted-even, shifted-half, block-half, block-odd}
 use lib.Count.{trailingZeros, under}
-use Rattle.fields.specs.Words.{word, Digits, FirstOf}
+use Rattle.fields.specs.Inside.{word, Digits, FirstOf}
 
 -- ---- the zeros below the lowest bit
 

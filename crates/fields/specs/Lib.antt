@@ -1,3 +1,3 @@
 pub mod Bytes
 pub mod Cutting
-pub mod Words
+pub mod Inside

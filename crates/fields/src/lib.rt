@@ -6,7 +6,7 @@ ghost use Prim.Native.Nat.{_+_, _/_, _≤_, _<_, min};
 ghost use lib.Count.{trailingZeros};
 ghost use lib.ListN.{getD};
 ghost use Rattle.fields.specs.Bytes.{pieceOf, sameBytes, sharedBytes, isLetter, isNameByte, FirstAt, RunEnd};
-ghost use Rattle.fields.specs.Words.{FirstOf, Digits, BeginAlike};
+ghost use Rattle.fields.specs.Inside.{FirstOf, Digits, BeginAlike};
 
 // A number that was read, or that the bytes are none.
 pub enum Number {

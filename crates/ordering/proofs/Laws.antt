@@ -9,7 +9,7 @@ use native.Mathlib.Omega.{arith}
 use borrow.Author.Tests.{lt-ltb, le-ltb, eq-eqb, ne-eqb}
 use lib.ListN.{length, getD, take, drop, replicate, List·getD-append, List·getD-eq-default}
 use Rattle.ordering.specs.Ordering.{lessBytes, rowKey, keyAt, insertBy, Ordered, none, takes, passes, Orders}
-use Rattle.ordering.specs.Halving.{Level}
+use Rattle.ordering.specs.Inside.{Level}
 
 -- ---- the order of lists
 

@@ -15,7 +15,7 @@ use Rattle.fields.specs.Bytes.{sharedBytes}
 use Rattle.fields.proofs.Parts.{headed}
 use Rattle.fields.proofs.Same.{shared-rest, shared-other, shared-both}
 use Rattle.ordering.specs.Ordering.{lessBytes, insertBy}
-use Rattle.ordering.specs.Halving.{Level, Between}
+use Rattle.ordering.specs.Inside.{Level, Between}
 use Rattle.ordering.proofs.Laws.{never, compared, less-rest, less-near, insert-at}
 
 -- ---- comparing

@@ -9,7 +9,7 @@ use lib.Seq.{take-at, drop-append-add, drop-drop}
 use Rattle.products.specs.Sets.{InBoth}
 use Rattle.products.proofs.Laws.{has-row}
 use Rattle.ordering.specs.Ordering.{MadeRow, insertBy, none, takes, passes, Orders}
-use Rattle.ordering.specs.Halving.{Level}
+use Rattle.ordering.specs.Inside.{Level}
 use Rattle.ordering.proofs.Laws.{insert-length, orders-few, orders-level}
 
 -- ---- whether some product makes the row's move

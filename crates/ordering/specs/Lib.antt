@@ -1,2 +1,2 @@
 pub mod Ordering
-pub mod Halving
+pub mod Inside

@@ -5,7 +5,7 @@ ghost use mathlib.Core.List.{List, [], _∷_, _++_};
 ghost use Prim.Native.Nat.{ℕ, _+_, _≤_, _<_, min};
 ghost use lib.ListN.{length, getD, take, drop};
 ghost use Rattle.ordering.specs.Ordering.{lessBytes, rowKey, keyAt, MadeRow, insertBy, Orders};
-ghost use Rattle.ordering.specs.Halving.{Level, Between};
+ghost use Rattle.ordering.specs.Inside.{Level, Between};
 use tables::ACTION;
 use tables::ACTION_END;
 use tables::FROM;

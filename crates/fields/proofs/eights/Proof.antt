@@ -3,7 +3,7 @@ use Prim.Native.Nat.{_-_, _≤_}
 use native.Mathlib.Omega.{arith}
 use lib.Bits.{bitXor}
 use lib.Count.{trailing-le}
-use Rattle.fields.specs.Words.{BeginAlike}
+use Rattle.fields.specs.Inside.{BeginAlike}
 use Rattle.fields.proofs.Same.{alike-none, alike-less, alike-below, alike-eight}
 use borrow.Author.Needs.{needs}
 use Rattle.fields.proofs.eights.Statement.{statement}

@@ -1,7 +1,7 @@
 -- `shared`. The invariant: up to place n both are alike, and n is no further than both reach. It holds where `eights` leaves off. Assumes nothing.
 use Prim.Native.Nat.{_-_}
 use native.Mathlib.Omega.{arith}
-use Rattle.fields.specs.Words.{BeginAlike}
+use Rattle.fields.specs.Inside.{BeginAlike}
 use Rattle.fields.proofs.Same.{alike-less, alike-one, shared-stop, shared-end}
 use borrow.Author.Needs.{needs}
 use Rattle.fields.proofs.shared.Statement.{statement}

@@ -3,7 +3,7 @@ use mathlib.Core.Path.{refl, ap₂, _∙_}
 use Prim.Native.Nat.{_-_, _≤_}
 use native.Mathlib.Omega.{arith}
 use Rattle.ordering.specs.Ordering.{lessBytes, keyAt}
-use Rattle.ordering.specs.Halving.{Level, Between}
+use Rattle.ordering.specs.Inside.{Level, Between}
 use Rattle.ordering.proofs.Places.{between-start, between-front, between-back, between-as}
 use borrow.Author.Needs.{needs}
 use Rattle.ordering.proofs.place_of.Statement.{statement}
