@@ -127,8 +127,8 @@ fn place_of(
     low
 }
 
-// A place from `low` on and before `high`: first `near`; then, as long as nothing stands behind, ever further
-// from there; else the middle. Nothing hangs on the choice but speed.
+// A place from `low` on and before `high`: first `near`; then, as long as none is known to stand behind, ever
+// further from there; else the middle. Nothing hangs on the choice but speed.
 fn look(low: usize, high: usize, near: usize, k: usize) -> usize
     requires { ⌜ (low < high) × (high < 256) ⌝ }
     ensures { λ r. ⌜ (low ≤ r) × (r < high) ⌝ }
@@ -140,7 +140,7 @@ fn look(low: usize, high: usize, near: usize, k: usize) -> usize
     if low <= near {
         return counts::at_most(near, high - 1);
     }
-    counts::at_most(low + (low - near - 1), middle)
+    counts::at_most(low + (low - near) + 6, middle)
 }
 
 // The number of a row, as wide as tables ask for.

@@ -157,7 +157,7 @@ fn joined(set: &[u64; 16]) -> u64
     r
 }
 
-// Whether each word of the set is 0 or x.
+// Yes only where each word of the set is 0 or x. Nothing hangs on a no but speed.
 fn repeated(set: &[u64; 16], x: u64) -> bool
     ensures { λ r. ⌜ (r ≡ true → Repeats x (now (set .entry)) 16) ⌝ }
 {
