@@ -1,10 +1,14 @@
--- What `is_empty`, `meets` and `exceeds` promise determines their answers. Assumes nothing.
+-- What `has`, `is_empty`, `meets` and `exceeds` promise determines their answers. Assumes nothing.
 use mathlib.Core.Path.{_≡_}
 use mathlib.Core.Bool.{Bool, true, false}
 use mathlib.Core.List.{List}
 use Prim.Native.Nat.{ℕ}
 use Rattle.products.specs.Sets.{In}
 use Rattle.products.proofs.Determined.{told-determined}
+
+-- of `has`
+pub has-determined : (s : List ℕ) (p : ℕ) (r r′ : Bool) → (r ≡ true → In s p) × (r ≡ false → In s p → ⊥) → (r′ ≡ true → In s p) × (r′ ≡ false → In s p → ⊥) → r ≡ r′
+has-determined s p = told-determined (λ i none. none i)
 
 -- of `is_empty`
 pub empty-determined : (s : List ℕ) (r r′ : Bool) → (r ≡ true → (q : ℕ) → In s q → ⊥) × (r ≡ false → (q : ℕ) × In s q)

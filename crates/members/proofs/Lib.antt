@@ -1,3 +1,4 @@
+pub mod Membership
 pub mod Passed
 pub mod Joined
 pub mod Determined

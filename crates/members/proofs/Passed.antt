@@ -2,26 +2,14 @@
 -- it says where the search ends. Assumes nothing.
 use mathlib.Core.Path.{_≡_, sym, _∙_}
 use mathlib.Core.List.{List}
-use mathlib.Core.Logic.{⊎-elim}
 use Prim.Native.Nat.{ℕ, zero, suc, _+_, _*_, _/_, _%_, _^_, _<_, _≤_}
-use native.Mathlib.Nat.{eq-or-lt-of-le, pow-suc}
 use native.Mathlib.Omega.{arith}
 use native.Mathlib.Numerals.{add-one}
 use borrow.Author.Count.{below-more}
 use lib.ListN.{getD}
 use Rattle.products.specs.Sets.{bit, has, Picked, Least}
-use Rattle.products.proofs.Bits.{bit-suc, zero-bit}
+use Rattle.products.proofs.Bits.{zero-bit, some-bit}
 use Rattle.products.proofs.Laws.{has-at}
-
--- a word that is not 0 has a bit
-some-bit : (n x : ℕ) → x < 2 ^ n → (x ≡ 0 → ⊥) → (k : ℕ) × (k < n) × (bit x k ≡ 1)
-some-bit zero x lx ne = absurd (omega arith)
-some-bit (suc n) x lx ne =
-    let le : x % 2 ≤ 1 = omega arith in
-    ⊎-elim
-    (λ e. (0, omega arith, omega arith))
-    (λ lt. let h = some-bit n (x / 2) (omega (arith, pow-suc 2 n)) (omega arith) in (suc (h .0), omega (arith, h .1), bit-suc x (h .0) ∙ h .2))
-    (eq-or-lt-of-le le)
 
 -- no product before bit k of word w is picked
 pub record Passed (y : ℕ) (a b : List ℕ) (w k : ℕ) : Type 0 where

@@ -1,10 +1,20 @@
-// What sets of products have: whether a set has one, and how many; of two sets the least that they share, or
-// that the first alone has, and whether there is one; whether they are the same.
+// What sets of products have: whether a set has a product, or any, and how many; of two sets the least that
+// they share, or that the first alone has, and whether there is one; whether they are the same.
 ghost use mathlib.Core.Path.{_≡_};
 ghost use mathlib.Core.Bool.{true, false, not};
 ghost use Prim.Native.Nat.{ℕ, _+_, _*_, _<_, _≤_};
 ghost use Rattle.products.specs.Sets.{bit, oneIf, In, Picked, InBoth, InOnly, Finds, countTo};
 use products::Found;
+
+// Whether s has the product p.
+pub fn has(s: &[u64; 16], p: usize) -> bool
+    ensures { λ r. ⌜ (r ≡ true → In (now (s .entry)) p) × (r ≡ false → In (now (s .entry)) p → ⊥) ⌝ }
+{
+    if 1024 <= p {
+        return false;
+    }
+    (s[p / 64] >> (p % 64)) % 2 == 1
+}
 
 // Whether a and b have the same products: all words at once, without a branch for each.
 pub fn same(a: [u64; 16], b: [u64; 16]) -> bool

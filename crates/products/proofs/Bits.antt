@@ -2,15 +2,16 @@
 -- many there are. The rule of a word of the code is one computed test over its 64 bits. Assumes nothing.
 use mathlib.Core.Path.{_≡_, refl, sym, ap, ap₂, _∙_}
 use mathlib.Core.Bool.{Bool, true, false, _&&_}
+use mathlib.Core.Logic.{⊎-elim}
 use Prim.Native.Nat.{ℕ, zero, suc, _+_, _-_, _*_, _/_, _%_, _^_, _<_, _≤_, min, max}
 use native.Mathlib.Omega.{arith}
 use native.Mathlib.Numerals.{add-one}
-use native.Mathlib.Nat.{zero-div, div-eq-of-lt, pow-suc}
+use native.Mathlib.Nat.{zero-div, div-eq-of-lt, eq-or-lt-of-le, pow-suc}
 use borrow.Author.Count.{below-none, below-more}
-use borrow.Author.Tests.{lt-ltb, le-ltb}
+use borrow.Author.Tests.{lt-ltb, le-ltb, ne-eqb}
 use lib.Bits.{bitAnd, bitOr, bitXor, and-shr, or-shr, xor-shr, and-step, or-step, xor-add-and}
 use lib.Count.{ones, ones-step, ones-le}
-use lib.Dec.{T, eqb, ltb, eqb→eq}
+use lib.Dec.{T, eqb, ltb, eqb→eq, eqb·suc-suc}
 use lib.Pow.{pow-mono, shr-shr}
 use Rattle.products.specs.Sets.{bit, oneIf}
 
@@ -60,6 +61,25 @@ eq-bits (suc k) x y lx ly h =
 -- no bit of 0 is 1
 pub zero-bit : (k : ℕ) → bit 0 k ≡ 0
 zero-bit k = ap (λ (n : ℕ). n % 2) (zero-div (2 ^ k))
+
+-- a word that is not 0 has a bit that is 1
+pub some-bit : (n x : ℕ) → x < 2 ^ n → (x ≡ 0 → ⊥) → (k : ℕ) × (k < n) × (bit x k ≡ 1)
+some-bit zero x lx ne = absurd (omega arith)
+some-bit (suc n) x lx ne =
+    let le : x % 2 ≤ 1 = omega arith in
+    ⊎-elim
+    (λ e. (0, omega arith, omega arith))
+    (λ lt. let h = some-bit n (x / 2) (omega (arith, pow-suc 2 n)) (omega arith) in (suc (h .0), omega (arith, h .1), bit-suc x (h .0) ∙ h .2))
+    (eq-or-lt-of-le le)
+
+-- the bits of a power of two: 1 at its exponent alone
+pub power-bit : (k q : ℕ) → bit (2 ^ k) q ≡ oneIf (eqb k q)
+power-bit zero zero = refl
+power-bit zero (suc q) = rw (ne-eqb 0 (suc q) (λ e. omega arith)) (bit-suc 1 q ∙ zero-bit q)
+power-bit (suc k) zero = rw (ne-eqb (suc k) 0 (λ e. omega arith)) (omega (arith, pow-suc 2 k))
+power-bit (suc k) (suc q) =
+    let h : 2 ^ suc k / 2 ≡ 2 ^ k = omega (arith, pow-suc 2 k) in
+    rw (eqb·suc-suc k q) (bit-suc (2 ^ suc k) q ∙ ap (λ (x : ℕ). bit x q) h ∙ power-bit k q)
 
 -- ---- words of the code
 

@@ -1,0 +1,5 @@
+pub mod Ways
+pub mod Promise
+pub mod Runs
+pub mod Shown
+pub mod Inside

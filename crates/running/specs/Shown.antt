@@ -1,0 +1,34 @@
+-- A call's answer as the table of refusals has it, and what the program prints after the call. Assumes nothing: these are definitions.
+use mathlib.Core.Bool.{cond}
+use mathlib.Core.List.{List, [], _∷_, _++_}
+use Prim.Native.Nat.{ℕ}
+use lib.Dec.{eqb}
+use Rattle.products.specs.Sets.{bit}
+use Rattle.text.specs.Text.{decimal, texts}
+use Rattle.refusals.specs.declared.Refusal.{Refusal}
+use Rattle.refusals.specs.Refusal.{refusal, refusalText}
+use Rattle.running.specs.declared.RunningBox.{RunningBox}
+use Rattle.running.specs.declared.Answer.{Answer}
+use Rattle.running.specs.declared.Answer.the-variants.{Done, Refused}
+use Rattle.running.specs.declared.Called.{Called}
+
+-- the row of the table, "0, done, 0" among them: number and line
+abbrev pub rowOf : Answer → Refusal
+rowOf Done = refusal 0 0
+rowOf (Refused q) = q
+
+-- a tab and the state q, if the place w has it
+abbrev pub stateText : ℕ → ℕ → List ℕ
+stateText w q = cond (eqb (bit w q) 1) ((9 ∷ []) ++ decimal q) []
+
+-- `place`, and the states of the place rising, tab-parted, with byte 10 at the end
+unfoldable pub placeText : ℕ → List ℕ
+placeText w = (112 ∷ 108 ∷ 97 ∷ 99 ∷ 101 ∷ []) ++ (texts (stateText w) 64 ++ (10 ∷ []))
+
+abbrev pub toldText : Answer → RunningBox → List ℕ
+toldText Done b = placeText (b .place)
+toldText (Refused q) b = refusalText q
+
+-- the line that is printed after a call: the place, or the refusal
+abbrev pub calledText : Called → List ℕ
+calledText x = toldText (x .answer) (x .after)
