@@ -1,32 +1,20 @@
 -- What the functions inside the box promise each other. Nobody has to believe this page: what the calls promise does not speak of it. Assumes
 -- nothing: these are definitions.
-use mathlib.Core.Bool.{true}
 use mathlib.Core.List.{List, []}
 use mathlib.Core.Logic.{_⊎_}
 use mathlib.Core.Path.{_≡_}
-use Prim.Native.Nat.{ℕ, _≤_, _<_}
+use Prim.Native.Nat.{ℕ, _<_}
 use lib.ListN.{getD}
-use Rattle.products.specs.Sets.{bit, has, oneIf, In}
+use Rattle.products.specs.Sets.{bit, In}
 use Rattle.fields.specs.Bytes.{pieceOf}
-use Rattle.guards.specs.Guard.{Means}
-use Rattle.sheet.specs.declared.Counts.{Counts}
 use Rattle.sheet.specs.declared.SheetRead.{SheetRead}
-use Rattle.sheet.specs.declared.SheetRead.the-variants as whole
-use Rattle.sheet.specs.Sheet.{Sheet, isValid}
-use Rattle.sheet.specs.Reading.{kept, refused, readSheet}
-use Rattle.sheet.specs.Tables.{Rows, MoveRow}
+use Rattle.sheet.specs.Tables.{tables, ReadsSheet}
 use Rattle.running.specs.declared.RunningBox.{RunningBox}
 
--- of the sheet's tables what a box needs: the valid products, and for each move its row and its guard's set
-pub record Seen (s valid : List ℕ) (moves guards : List (List ℕ)) (c : Counts) (r : Sheet) : Type 0 where
-  pub start : c .start ≡ r .start
-  pub valid : (p : ℕ) → p < 1024 → has valid p ≡ oneIf (isValid r p)
-  pub few : c .moves ≤ 256
-  pub rows : Rows (λ i m. MoveRow s (getD moves i []) m × Means (getD guards i []) (m .guard)) (c .moves) (r .moves)
-
+-- what the reader promises, of the tables that a box needs and of some others
 abbrev pub Looks : List ℕ → List ℕ → List (List ℕ) → List (List ℕ) → SheetRead → Type 0
-Looks s valid moves guards (whole.Kept c) = (r : Sheet) × (readSheet s ≡ kept r) × Seen s valid moves guards c r
-Looks s valid moves guards (whole.Refused q) = readSheet s ≡ refused q
+Looks s valid moves guards r =
+    (names : List (List ℕ)) × (stops : List (List ℕ)) × (stopGuards : List (List ℕ)) × ReadsSheet 256 256 64 64 s (tables names valid moves guards stops stopGuards) r
 
 -- a move's row, with its guard's set, leads the box to q by the name
 pub record RowLeads (s row guard : List ℕ) (b : RunningBox) (name : List ℕ) (q : ℕ) : Type 0 where

@@ -1,0 +1,6 @@
+pub mod Gathering
+pub mod Meaning
+pub mod Determined
+pub mod Leading
+pub mod Lines
+pub mod Machine
