@@ -2,9 +2,8 @@
 // the last run gave: `bench report 1000`, `bench clean 1000` or `bench both 1000`. Nothing is measured here.
 use calls::Answers;
 use console::Input;
+use fields::Number;
 use tables::MOST_BYTES;
-
-const MOST_TURNS: usize = 1_000_000_000;
 
 // The call that is run.
 enum Mode {
@@ -26,7 +25,7 @@ fn main() {
     let a = os::arg(1, &mut word);
     let mode = mode_of(&word, a);
     let b = os::arg(2, &mut word);
-    let turns = turns_of(&word, b);
+    let turns = turns_of(console::first(&word, b));
     if let Mode::None = mode {
         console::tell(b"bench: report, clean or both, and a number\n");
         return;
@@ -56,27 +55,12 @@ fn mode_of(word: &[u8], n: usize) -> Mode {
     }
 }
 
-// The number that the first n bytes spell, as far as they are digits.
-fn turns_of(word: &[u8], n: usize) -> usize {
-    let mut turns: usize = 0;
-    let mut i = 0;
-    while i < n {
-        if word.len() <= i {
-            return turns;
-        }
-        let b = word[i];
-        if b < b'0' {
-            return turns;
-        }
-        if b'9' < b {
-            return turns;
-        }
-        if MOST_TURNS < turns {
-            return turns;
-        }
-        turns = turns * 10 + (b as usize - 48);
-        i += 1;
-    }
+// The number that the word spells, or 0.
+fn turns_of(word: &[u8]) -> usize {
+    let number = console::number(word);
+    let Number::Of(turns) = number else {
+        return 0;
+    };
     turns
 }
 

@@ -1,2 +1,4 @@
 pub mod Answer
 pub mod Sofar
+pub mod Lined
+pub mod Spelt

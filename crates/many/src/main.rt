@@ -4,12 +4,12 @@
 // `clean` writes, and what the call with two rooms gave. That is the line of the refusal; or `done`, the
 // report's length and the clean sheet's, tab-parted, byte 10, and then both texts. Nothing is judged here.
 use calls::Answers;
+use console::Line;
+use fields::Number;
 use libc::STDIN_FILENO;
 use tables::MOST_BYTES;
 
-// The most that a frame can hold, and the most digits that its length is written with.
-const MOST_LENGTH: usize = 1_000_000_000;
-
+// The most digits that a frame's length is written with.
 const MOST_DIGITS: usize = 20;
 
 // More bytes than any line has that is written here.
@@ -20,13 +20,6 @@ enum Head {
     Length(usize),
     End,
     Broken,
-}
-
-// What one read gave: a byte, the end of the input, or an error.
-enum Next {
-    Byte(u8),
-    End,
-    Failed,
 }
 
 fn main() {
@@ -84,60 +77,23 @@ fn answer(text: &[u8], room: &mut [u8], clean_room: &mut [u8]) -> bool {
     answer_both(text, room, clean_room)
 }
 
-// The number before the next byte 10. Only before its first byte the input may end.
+// The number before the next byte 10.
 fn read_head() -> Head {
-    let next = read_byte();
-    match next {
-        Next::Byte(b) => read_length(b),
-        Next::End => Head::End,
-        Next::Failed => Head::Broken,
+    let mut word = [0u8; MOST_DIGITS];
+    let line = console::read_line(&mut word);
+    match line {
+        Line::Of(n) => head_of(console::first(&word, n)),
+        Line::End => Head::End,
+        Line::Failed => Head::Broken,
     }
 }
 
-// The number whose first byte is `first`.
-fn read_length(first: u8) -> Head {
-    let mut length: usize = 0;
-    let mut b = first;
-    let mut left = MOST_DIGITS;
-    while left > 0 {
-        if b == b'\n' {
-            return Head::Length(length);
-        }
-        if b < b'0' {
-            return Head::Broken;
-        }
-        if b'9' < b {
-            return Head::Broken;
-        }
-        length = length * 10 + (b as usize - 48);
-        if MOST_LENGTH < length {
-            return Head::Broken;
-        }
-        b = read_digit();
-        left -= 1;
+fn head_of(word: &[u8]) -> Head {
+    let number = console::number(word);
+    match number {
+        Number::Of(length) => Head::Length(length),
+        Number::Bad => Head::Broken,
     }
-    Head::Broken
-}
-
-// The next byte, or 0, which is no digit, where none comes.
-fn read_digit() -> u8 {
-    let next = read_byte();
-    let Next::Byte(b) = next else {
-        return 0;
-    };
-    b
-}
-
-fn read_byte() -> Next {
-    let mut byte = [0u8; 1];
-    let got = libc::read(STDIN_FILENO, &mut byte);
-    if got < 0 {
-        return Next::Failed;
-    }
-    if got == 0 {
-        return Next::End;
-    }
-    Next::Byte(byte[0])
 }
 
 // Reads a sheet of this length; answers whether all of it came. As much as fits is laid at the start

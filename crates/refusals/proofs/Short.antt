@@ -1,28 +1,13 @@
--- A refusal's line is short: at most 33 bytes for a number of 8 bits and a line of 64, so that a small room takes it whole. The one idea: a
--- number below 10 ^ k has at most k digits, since what stands before its last digit is below 10 ^ (k - 1). Assumes nothing.
+-- A refusal's line is short: at most 33 bytes for a number of 8 bits and a line of 64, so that a small room takes it whole. Assumes nothing.
 use mathlib.Core.Path.{_≡_}
-use mathlib.Core.List.{List, [], _∷_, _++_}
-use Prim.Native.Nat.{ℕ, zero, suc, _+_, _/_, _%_, _^_, _≤_, _<_}
+use mathlib.Core.List.{List}
+use Prim.Native.Nat.{ℕ, _+_, _^_, _≤_, _<_}
 use native.Mathlib.Omega.{arith}
-use native.Mathlib.Nat.{pow-suc}
 use lib.ListN.{length, take, length-append}
 use Rattle.text.specs.Text.{Wrote, decimal}
-use Rattle.text.proofs.Laws.{decimal-every, wrote-text, wrote-end}
+use Rattle.text.proofs.Laws.{decimal-places, wrote-text, wrote-end}
 use Rattle.refusals.specs.declared.Refusal.{Refusal}
 use Rattle.refusals.specs.Refusal.{refusalText}
-
--- one digit more is one place more
-more-places : (n : ℕ) (bs : List ℕ) → 10 ≤ n → ((k : ℕ) → n / 10 < 10 ^ suc k → length bs ≤ suc k)
-    → (k : ℕ) → n < 10 ^ suc k → length (bs ++ ((n % 10 + 48) ∷ [])) ≤ suc k
-more-places n bs h p zero l = absurd (omega arith)
-more-places n bs h p (suc k) l =
-    let fewer = p k (omega (arith, pow-suc 10 (suc k))) in
-    let e = length-append bs ((n % 10 + 48) ∷ []) in
-    omega arith
-
--- a number below 10 ^ k has at most k digits, for every k but 0
-pub decimal-places : (n k : ℕ) → n < 10 ^ suc k → length (decimal n) ≤ suc k
-decimal-places = decimal-every (λ n bs. (k : ℕ) → n < 10 ^ suc k → length bs ≤ suc k) (λ n h k l. omega arith) more-places
 
 -- the line's length
 refusal-length : (q : Refusal) → length (refusalText q) ≡ 8 + (length (decimal (q .number)) + (1 + (length (decimal (q .line)) + 1)))

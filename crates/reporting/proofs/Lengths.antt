@@ -1,13 +1,12 @@
 -- A report has at most 9,545 bytes: 25 for each of 256 moves, 26 for each of 64 states, 23 for each of 64 stop lines, 9 for the depth. The one idea:
 -- no row is longer, whatever its verdict, since no number in it has more digits than its bound. Assumes nothing.
 use mathlib.Core.List.{List, [], _∷_, _++_}
-use Prim.Native.Nat.{ℕ, zero, suc, _+_, _*_, _/_, _%_, _^_, _≤_, _<_}
+use Prim.Native.Nat.{ℕ, zero, suc, _+_, _*_, _≤_, _<_}
 use native.Mathlib.Omega.{arith}
-use native.Mathlib.Nat.{pow-suc}
 use lib.ListN.{length, length-append}
 use Rattle.products.specs.declared.Found.the-variants.{At, Nothing}
 use Rattle.text.specs.Text.{decimal}
-use Rattle.text.proofs.Laws.{decimal-every}
+use Rattle.text.proofs.Laws.{decimal-places}
 use Rattle.sheet.specs.Sheet.{Move, Stop, Sheet}
 use Rattle.sheet.specs.Accepted.{Accepted, GoodStops}
 use Rattle.sheet.specs.Inside.{Apart}
@@ -25,15 +24,6 @@ use Rattle.verdicts.specs.Verdicts.{JudgedAs, StateAs, StopAs, Counted, nobody,
 use Rattle.reporting.specs.Report.{foundText, word, madeOf, missedOf, stateWord, hiddenOf, stopWord, untrueOf, moveRow, stateRow, stopRow, depthRow, MoveRows, StateRows, StopRows, IsReport}
 
 -- ---- fields
-
--- a number below 10 ^ k has at most k digits, for every k but 0
-decimal-places : (n k : ℕ) → n < 10 ^ suc k → length (decimal n) ≤ suc k
-decimal-places = decimal-every (λ n bs. (k : ℕ) → n < 10 ^ suc k → length bs ≤ suc k) (λ n h k l. omega arith) more
-  where
-    more : (n : ℕ) (bs : List ℕ) → 10 ≤ n → ((k : ℕ) → n / 10 < 10 ^ suc k → length bs ≤ suc k)
-        → (k : ℕ) → n < 10 ^ suc k → length (bs ++ ((n % 10 + 48) ∷ [])) ≤ suc k
-    more n bs h p zero l = absurd (omega arith)
-    more n bs h p (suc k) l = simp length-append (omega (arith, p k (omega (arith, pow-suc 10 (suc k)))))
 
 line-short : {n : ℕ} → n ≤ 65537 → length (decimal n) ≤ 5
 line-short {n} l = decimal-places n 4 (omega arith)

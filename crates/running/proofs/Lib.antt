@@ -2,5 +2,5 @@ pub mod Gathering
 pub mod Meaning
 pub mod Determined
 pub mod Leading
-pub mod Lines
+pub mod Shown
 pub mod Machine

@@ -1,10 +1,12 @@
 -- A call's answer as the table of refusals has it, and what the program prints after the call. Assumes nothing: these are definitions.
 use mathlib.Core.Bool.{cond}
 use mathlib.Core.List.{List, [], _∷_, _++_}
-use Prim.Native.Nat.{ℕ}
+use mathlib.Core.Path.{_≡_}
+use Prim.Native.Nat.{ℕ, _≤_}
 use lib.Dec.{eqb}
+use lib.ListN.{length, take}
 use Rattle.products.specs.Sets.{bit}
-use Rattle.text.specs.Text.{decimal, texts}
+use Rattle.text.specs.Text.{Wrote, decimal, texts}
 use Rattle.refusals.specs.declared.Refusal.{Refusal}
 use Rattle.refusals.specs.Refusal.{refusal, refusalText}
 use Rattle.running.specs.declared.RunningBox.{RunningBox}
@@ -32,3 +34,8 @@ toldText (Refused q) b = refusalText q
 -- the line that is printed after a call: the place, or the refusal
 abbrev pub calledText : Called → List ℕ
 calledText x = toldText (x .answer) (x .after)
+
+-- what `put_called` leaves of a room: the line at its start, whole where the room has 198 bytes, the most that a line has; n is how many it has
+pub record Told (room room′ : List ℕ) (n : ℕ) (x : Called) : Type 0 where
+  pub laid : Wrote room 0 (calledText x) room′ n
+  pub whole : 198 ≤ length room → take n room′ ≡ calledText x

@@ -1,12 +1,12 @@
 // The box that runs from its sheet. Set up with a sheet and a product it stands at the start; an action's
 // name takes it to the ends of that name's moves which the product makes from where it stands, and it keeps
 // its place from one action to the next. Of a sheet it knows what the reader promises, and nothing else.
-mod shown;
-
 ghost use mathlib.Core.Path.{_≡_};
 ghost use Prim.Native.Nat.{ℕ, min};
+ghost use Rattle.text.specs.Text.{Wrote};
 ghost use Rattle.refusals.specs.Refusal.{refusal};
 ghost use Rattle.running.specs.Promise.{called, nowhere, SetsUp, Acts};
+ghost use Rattle.running.specs.Shown.{placeText, stateText, Told};
 ghost use Rattle.running.specs.Inside.{Looks, RowLeads, Added, Gathered, leadsAt};
 use refusals::Refusal;
 use sheet::SheetRead;
@@ -93,6 +93,19 @@ pub fn act_held(text: &[u8], b: RunningBox, action: &[u8]) -> Called
     Called {
         answer,
         after: held,
+    }
+}
+
+// Lays the line that tells of a call: `place` with the states of the place, rising, or the refusal. Answers
+// how many bytes it has.
+pub fn put_called(x: Called, room: &mut [u8]) -> usize
+    ensures { λ n. ⌜ Told (now (room .entry)) (now (room .exit)) n x ⌝ }
+{
+    let answer = x.answer;
+    let after = x.after;
+    match answer {
+        Answer::Done => put_place(room, 0, after.place),
+        Answer::Refused(q) => refusals::put_refusal(room, 0, q),
     }
 }
 
@@ -206,4 +219,28 @@ fn with_row(
         return set;
     }
     states::with_state(set, row[TO])
+}
+
+// `place`, and the states of the place, rising.
+fn put_place(room: &mut [u8], at: usize, place: u64) -> usize
+    ensures { λ n. ⌜ Wrote (now (room .entry)) at (placeText place) (now (room .exit)) n ⌝ }
+{
+    let mut next = text::put_bytes(room, at, b"place");
+    let mut q = 0;
+    while q < 64 {
+        next = put_state(room, next, place, q);
+        q += 1;
+    }
+    text::put(room, next, b'\n')
+}
+
+// A tab and the state, if the place has it.
+fn put_state(room: &mut [u8], at: usize, place: u64, q: usize) -> usize
+    ensures { λ n. ⌜ Wrote (now (room .entry)) at (stateText place q) (now (room .exit)) n ⌝ }
+{
+    if !states::has(place, q) {
+        return at;
+    }
+    let a = text::put(room, at, b'\t');
+    text::put_number(room, a, q)
 }

@@ -3,10 +3,10 @@
 use mathlib.Core.Path.{_≡_, refl, sym, ap, _∙_}
 use mathlib.Core.List.{List, [], _∷_, _++_, append-assoc, append-nil, List·Memᴰ, List·Memᴰ·append-cases, List·Memᴰ·eq-of-singleton}
 use mathlib.Core.Logic.{⊎-elim}
-use Prim.Native.Nat.{ℕ, zero, suc, _+_, _-_, _*_, _/_, _%_, _≤_, _<_, min}
+use Prim.Native.Nat.{ℕ, zero, suc, _+_, _-_, _*_, _/_, _%_, _^_, _≤_, _<_, min}
 use native.Mathlib.Omega.{arith}
 use native.Mathlib.Numerals.{add-one}
-use native.Mathlib.Nat.{add-zero, zero-add, eq-zero-or-pos}
+use native.Mathlib.Nat.{add-zero, zero-add, eq-zero-or-pos, pow-suc}
 use borrow.Author.Tests.{lt-ltb, le-ltb}
 use lib.ListN.{getD, length, set, take, drop, length-append, length-set, drop-of-length-le}
 use lib.Seq.{sets, length-sets, sets-eq, set-out, set-at, take-suc, drop-cons, take-all, length-take-le, take-at, drop-at}
@@ -250,6 +250,15 @@ decimal-begins =
 -- no leading zero
 pub decimal-first : (n : ℕ) (bs : List ℕ) → decimal n ≡ 48 ∷ bs → n ≡ 0
 decimal-first n bs e = let p = decimal-begins n in let f = p .2 in p .3 (cc)
+
+-- a number below 10 ^ k has at most k digits, for every k but 0: what stands before its last digit is below 10 ^ (k - 1)
+pub decimal-places : (n k : ℕ) → n < 10 ^ suc k → length (decimal n) ≤ suc k
+decimal-places = decimal-every (λ n bs. (k : ℕ) → n < 10 ^ suc k → length bs ≤ suc k) (λ n h k l. omega arith) more
+  where
+    more : (n : ℕ) (bs : List ℕ) → 10 ≤ n → ((k : ℕ) → n / 10 < 10 ^ suc k → length bs ≤ suc k)
+        → (k : ℕ) → n < 10 ^ suc k → length (bs ++ ((n % 10 + 48) ∷ [])) ≤ suc k
+    more n bs h p zero l = absurd (omega arith)
+    more n bs h p (suc k) l = simp length-append (omega (arith, p k (omega (arith, pow-suc 10 (suc k)))))
 
 -- the number that digits stand for, read behind the number a
 unfoldable pub worth : ℕ → List ℕ → ℕ

@@ -7,10 +7,10 @@ use Rattle.console.proofs.read_all.Statement.{statement}
 use Rattle.console.proofs.read_all.Tie as tie
 
 abbrev Inv-loop : tie.InvT-loop
-Inv-loop buf₀ at₀ turns₀ buf at turns = Sofar buf₀ buf at
+Inv-loop fd buf₀ at₀ turns₀ buf at turns = Sofar buf₀ buf at
 
 abbrev μ-loop : tie.MeasureT-loop
-μ-loop buf₀ at₀ turns₀ buf at turns = turns
+μ-loop fd buf₀ at₀ turns₀ buf at turns = turns
 
 loop-holds : tie.Need-loop-holds Inv-loop μ-loop
 loop-holds c = sofar-none (omega arith) (search needs)

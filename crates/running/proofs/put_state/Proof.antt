@@ -1,10 +1,10 @@
 -- `put_state` meets its contract: nothing, or a tab and the number. Assumes nothing.
 use mathlib.Core.Path.{_∙_}
 use Rattle.text.proofs.Laws.{wrote-none, wrote-long, wrote-then}
-use Rattle.running.proofs.Lines.{state-absent, state-laid}
+use Rattle.running.proofs.Shown.{state-absent, state-laid}
 use borrow.Author.Needs.{needs}
-use Rattle.running.proofs.shown.put_state.Statement.{statement}
-use Rattle.running.proofs.shown.put_state.Tie as tie
+use Rattle.running.proofs.put_state.Statement.{statement}
+use Rattle.running.proofs.put_state.Tie as tie
 
 returns : tie.Need-returns
 returns c = state-absent (c .before .before .before .args .place) _ (c .before .has .ensures) (c .if1 .taken) (wrote-none (search needs))

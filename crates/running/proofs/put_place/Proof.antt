@@ -5,10 +5,10 @@ use native.Mathlib.Omega.{arith}
 use Rattle.text.specs.Text.{Wrote, texts}
 use Rattle.text.proofs.Laws.{wrote-none, wrote-long}
 use Rattle.running.specs.Shown.{stateText}
-use Rattle.running.proofs.Lines.{states-more, line-laid}
+use Rattle.running.proofs.Shown.{states-more, line-laid}
 use borrow.Author.Needs.{needs}
-use Rattle.running.proofs.shown.put_place.Statement.{statement}
-use Rattle.running.proofs.shown.put_place.Tie as tie
+use Rattle.running.proofs.put_place.Statement.{statement}
+use Rattle.running.proofs.put_place.Tie as tie
 
 abbrev Inv-loop : tie.InvT-loop
 Inv-loop room₀ at place next₀ q₀ room next q = (q ≤ 64) × Wrote room₀ next₀ (texts (stateText place) q) room next
