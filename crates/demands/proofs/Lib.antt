@@ -1,5 +1,6 @@
 pub mod Demands
 pub mod Refusals
+pub mod Box
 pub mod Decided
 pub mod Exists
 pub mod Facts

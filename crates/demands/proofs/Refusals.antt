@@ -45,12 +45,12 @@ long-numbered : {Is : List ℕ → Type 0} {most line : ℕ} {q : Refusal} → T
 long-numbered l = let e = ap (λ (q : Refusal). q .number) (l .eleven) in (omega arith, omega arith)
 
 -- such a refusal is no row of a call that is done
-not-done : {q : Refusal} → Numbered q → q ≡ refusal 0 0 → ⊥
-not-done n e = let z = ap (λ (q : Refusal). q .number) e in omega (arith, n .0)
+pub not-done : {q : Refusal} → 1 ≤ q .number → q ≡ refusal 0 0 → ⊥
+not-done n e = let z = ap (λ (q : Refusal). q .number) e in omega arith
 
 -- ---- a longer input
 
-cut-same : (s : List ℕ) → readSheet (take 65537 s) ≡ readSheet s
+pub cut-same : (s : List ℕ) → readSheet (take 65537 s) ≡ readSheet s
 cut-same s =
     ⊎-elim (λ (z : length s - 65537 ≡ 0). ap readSheet (take-all 65537 s (omega arith)))
     (λ l. read-long (take 65537 s) (omega (arith, length-take 65537 s)) ∙ sym (read-long s (omega arith))) (eq-zero-or-pos (length s - 65537))
@@ -67,8 +67,8 @@ module _ (Is : Sheet → List ℕ → Type 0) (most : List ℕ → ℕ) where
 
   one-told : Told Call
   one-told s room x t other y (one.Done m) (one.Done n) h k row e = ap one.Done e
-  one-told s room x t other y (one.Done m) (one.Refused q) h k row e = absurd (not-done (one-refusals t other y q k) (sym row))
-  one-told s room x t other y (one.Refused p) (one.Done n) h k row e = absurd (not-done (one-refusals s room x p h) row)
+  one-told s room x t other y (one.Done m) (one.Refused q) h k row e = absurd (not-done (one-refusals t other y q k .0) (sym row))
+  one-told s room x t other y (one.Refused p) (one.Done n) h k row e = absurd (not-done (one-refusals s room x p h .0) row)
   one-told s room x t other y (one.Refused p) (one.Refused q) h k row e = ap one.Refused row
 
   -- in a room without a byte every text is too long
@@ -115,8 +115,8 @@ both-refusals s room x clean u q (k, j, inr (r, e, inr (f, l))) = long-numbered 
 
 pub both-told : BothTold
 both-told s room x clean u t other y second v (two.Done m n) (two.Done i j) h k row e = ap (λ (z : ℕ × ℕ). two.Done (z .0) (z .1)) e
-both-told s room x clean u t other y second v (two.Done m n) (two.Refused q) h k row e = absurd (not-done (both-refusals t other y second v q k) (sym row))
-both-told s room x clean u t other y second v (two.Refused p) (two.Done i j) h k row e = absurd (not-done (both-refusals s room x clean u p h) row)
+both-told s room x clean u t other y second v (two.Done m n) (two.Refused q) h k row e = absurd (not-done (both-refusals t other y second v q k .0) (sym row))
+both-told s room x clean u t other y second v (two.Refused p) (two.Done i j) h k row e = absurd (not-done (both-refusals s room x clean u p h .0) row)
 both-told s room x clean u t other y second v (two.Refused p) (two.Refused q) h k row e = ap two.Refused row
 
 both-as : (s t : List ℕ) → readSheet s ≡ readSheet t → (room x clean u : List ℕ) (a : Answers) → BothPromise s room x clean u a → BothPromise t room x clean u a

@@ -1,17 +1,19 @@
--- The demands as statements, each short, over `readSheet`, the report's and the clean sheet's relations and the calls' promises; proofs/ has a proof
--- of each under the name in the comment. What the calls themselves promise stands in src/lib.rt, the table of worked examples on the page Table.
+-- The demands as statements, each short, over `readSheet`, the report's and the clean sheet's relations and the calls' promises, and behind them what is
+-- promised of the box that runs from its sheet; proofs/ has a proof of each under the name in the comment. What the calls themselves promise stands in
+-- src/lib.rt, the table of worked examples on the page Table.
 -- Assumes nothing: these are definitions.
-use mathlib.Core.List.{List, []}
-use mathlib.Core.Logic.{_↔_}
+use mathlib.Core.Bool.{true}
+use mathlib.Core.List.{List, [], _∷_}
+use mathlib.Core.Logic.{_↔_, _⊎_}
 use mathlib.Core.Path.{_≡_}
 use Prim.Native.Nat.{ℕ, _≤_}
 use lib.ListN.{length, take}
 use Rattle.refusals.specs.declared.Refusal.{Refusal}
 use Rattle.refusals.specs.Refusal.{refusal}
-use Rattle.sheet.specs.Sheet.{Sheet, names}
+use Rattle.sheet.specs.Sheet.{Sheet, names, isValid}
 use Rattle.sheet.specs.Reading.{kept, refused, readSheet}
 use Rattle.sheet.specs.Accepted.{Accepted}
-use Rattle.family.specs.Ways.{Depth}
+use Rattle.family.specs.Ways.{Reached, Depth}
 use Rattle.reporting.specs.Report.{IsReport}
 use Rattle.normal.specs.Behaviour.{Same}
 use Rattle.normal.specs.Clean.{IsClean}
@@ -22,6 +24,13 @@ use Rattle.calls.specs.declared.Answers.{Answers}
 use Rattle.calls.specs.declared.Answers.the-variants as two
 use Rattle.calls.specs.Promise.{ReportPromise, CleanPromise, BothPromise}
 use Rattle.calls.specs.Shown.{rowOf, lengthOf, rowOfBoth, lengthsOf}
+use Rattle.running.specs.declared.RunningBox.{RunningBox}
+use Rattle.running.specs.declared.Answer.{Answer as BoxAnswer}
+use Rattle.running.specs.declared.Answer.the-variants as box
+use Rattle.running.specs.Ways.{Stands, Carries}
+use Rattle.running.specs.Promise.{nowhere, SetsUp, Acts}
+use Rattle.running.specs.Runs.{Run}
+use Rattle.running.specs.Shown.{rowOf as boxRow}
 
 -- ---- demand 1: any bytes, any room: the work or a refusal from the table. What is so of both calls with one room is said once, of a call that promises
 -- P of the sheet, the room before, the room after and the answer; P is ReportPromise or CleanPromise.
@@ -153,3 +162,69 @@ abbrev pub CleanReported : Type 0
 CleanReported =
     (s u x v y : List ℕ) (m n : ℕ) → CleanPromise s u x (one.Done m) → ReportPromise (take m x) v y (one.Done n)
     → (c : Sheet) × (readSheet (take m x) ≡ kept c) × IsReport _≤_ c (take n y) × Faultless c
+
+-- ---- "The box that runs from its sheet". `Acts` is what an action promises of a box that is given by value, and of one that is lent
+
+-- box-is-where-its-names-lead: "As long as the same sheet is lent, the place is exactly the ends of the ways that carry the names accepted so far."
+abbrev pub BoxIsWhereItsNamesLead : Type 0
+BoxIsWhereItsNamesLead =
+    (s : List ℕ) (p : ℕ) (names : List (List ℕ)) (b : RunningBox) → Run s p names b
+    → (r : Sheet) × (readSheet s ≡ kept r) × (isValid r p ≡ true) × (b .product ≡ p) × Stands b (Carries r p names)
+
+-- name-refused-if-no-way: after any such calls a name is accepted exactly if a way carries it behind the names accepted so far, and refused by 19, line 0,
+-- exactly if none does. So it is refused by nothing else.
+abbrev pub NameRefusedIfNoWay : Type 0
+NameRefusedIfNoWay =
+    (s : List ℕ) (p : ℕ) (names : List (List ℕ)) (b : RunningBox) (r : Sheet) (name : List ℕ) (a : BoxAnswer) (after : RunningBox)
+    → Run s p names b → readSheet s ≡ kept r → Acts s b name a after
+    → ((a ≡ box.Done) ↔ ((q : ℕ) × Carries r p (name ∷ names) q))
+    × ((a ≡ box.Refused (refusal 19 0)) ↔ ((q : ℕ) → Carries r p (name ∷ names) q → ⊥))
+
+-- names-lead-where-it-reaches: the ways that carry names lead to the states that the product reaches, and to no others.
+abbrev pub NamesLeadWhereItReaches : Type 0
+NamesLeadWhereItReaches = (r : Sheet) (p q : ℕ) → ((names : List (List ℕ)) × Carries r p names q) ↔ Reached r p q
+
+-- set-up-determined, act-determined: any two answers, with the boxes after them, that meet one promise are equal.
+abbrev pub SetUpDetermined : Type 0
+SetUpDetermined = (s : List ℕ) (p : ℕ) (a c : BoxAnswer) (b d : RunningBox) → SetsUp s p a b → SetsUp s p c d → (a ≡ c) × (b ≡ d)
+
+abbrev pub ActDetermined : Type 0
+ActDetermined =
+    (s : List ℕ) (b : RunningBox) (name : List ℕ) (a c : BoxAnswer) (d f : RunningBox) → Acts s b name a d → Acts s b name c f → (a ≡ c) × (d ≡ f)
+
+-- refused-set-up-refuses: the box of a refused set-up is refused every action, by whatever sheet, and stays as it is.
+abbrev pub RefusedSetUpRefuses : Type 0
+RefusedSetUpRefuses =
+    (s : List ℕ) (p : ℕ) (q : Refusal) (b : RunningBox) → SetsUp s p (box.Refused q) b
+    → (t name : List ℕ) (a : BoxAnswer) (after : RunningBox) → Acts t b name a after → (b ≡ nowhere) × (after ≡ b) × ((e : Refusal) × (a ≡ box.Refused e))
+
+-- box-table-refuses: what the table refuses, both calls refuse so.
+abbrev pub BoxTableRefuses : Type 0
+BoxTableRefuses =
+    (s : List ℕ) (q : Refusal) → readSheet s ≡ refused q
+    → ((p : ℕ) (a : BoxAnswer) (b : RunningBox) → SetsUp s p a b → (a ≡ box.Refused q) × (b ≡ nowhere))
+    × ((b : RunningBox) (name : List ℕ) (a : BoxAnswer) (after : RunningBox) → Acts s b name a after → (a ≡ box.Refused q) × (after ≡ b))
+
+-- set-up-refusals, act-refusals: the number of a refusal is 1 to 10; or it is 12 and, of an action, 19, with line 0.
+abbrev pub SetUpRefusals : Type 0
+SetUpRefusals = (s : List ℕ) (p : ℕ) (q : Refusal) (b : RunningBox) → SetsUp s p (box.Refused q) b → ((1 ≤ q .number) × (q .number ≤ 10)) ⊎ (q ≡ refusal 12 0)
+
+abbrev pub ActRefusals : Type 0
+ActRefusals =
+    (s : List ℕ) (b : RunningBox) (name : List ℕ) (q : Refusal) (after : RunningBox) → Acts s b name (box.Refused q) after
+    → ((1 ≤ q .number) × (q .number ≤ 10)) ⊎ ((q ≡ refusal 12 0) ⊎ (q ≡ refusal 19 0))
+
+-- set-up-told, act-told: the row of the table, "0, done, 0" or the refusal's, tells the answer.
+abbrev pub SetUpTold : Type 0
+SetUpTold = (s t : List ℕ) (p m : ℕ) (a c : BoxAnswer) (b d : RunningBox) → SetsUp s p a b → SetsUp t m c d → boxRow a ≡ boxRow c → a ≡ c
+
+abbrev pub ActTold : Type 0
+ActTold =
+    (s t : List ℕ) (b d : RunningBox) (name other : List ℕ) (a c : BoxAnswer) (x y : RunningBox) → Acts s b name a x → Acts t d other c y → boxRow a ≡ boxRow c → a ≡ c
+
+-- set-up-cut, act-cut: of a longer sheet the first 65,537 bytes are enough, and of a longer name the first 25, as the program keeps them.
+abbrev pub SetUpCut : Type 0
+SetUpCut = (s : List ℕ) (p : ℕ) (a : BoxAnswer) (b : RunningBox) → SetsUp (take 65537 s) p a b ↔ SetsUp s p a b
+
+abbrev pub ActCut : Type 0
+ActCut = (s : List ℕ) (b : RunningBox) (name : List ℕ) (a : BoxAnswer) (after : RunningBox) → Acts (take 65537 s) b (take 25 name) a after ↔ Acts s b name a after

@@ -32,7 +32,7 @@ use Rattle.verdicts.specs.declared.StopVerdict.{StopVerdict}
 use Rattle.verdicts.specs.declared.StopVerdict.the-variants.{Idle}
 use Rattle.verdicts.specs.Verdicts.{JudgedAs, StopAs, Named}
 use Rattle.verdicts.specs.Judging.{MoveSets, StateSets, StopSets, guardsAt, rowAt}
-use Rattle.verdicts.proofs.Gathered.{mark-one}
+use Rattle.states.proofs.Laws.{added-one}
 use Rattle.verdicts.proofs.Shown.{Tells, guards-none}
 use Rattle.verdicts.proofs.Answers.{none-move, none-stop}
 use Rattle.verdicts.proofs.Meaning.{named-means, reached-agree, count-judged, move-judged, state-judged, stop-judged}
@@ -252,7 +252,7 @@ pub all-named : (start leaves ends stopped : ℕ) (a b d : ℕ → Bool) → Mar
 all-named start leaves ends stopped a b d x y z q lq =
     let joined : bit (bitOr (bitOr leaves ends) stopped) q ≡ oneIf (a q || (b q || d q)) =
     bit-or (bitOr leaves ends) stopped q ∙ ap (λ (n : ℕ). max n (bit stopped q)) (bit-or leaves ends q) ∙ rw (x q lq, y q lq, z q lq) (one-or (a q) (b q) (d q)) in
-    mark-one (bitOr (bitOr leaves ends) stopped) (start % 64) (omega arith) q lq ∙ ap (λ (n : ℕ). max n (oneIf (eqb (start % 64) q))) joined
+    added-one (bitOr (bitOr leaves ends) stopped) (start % 64) (omega arith) q lq ∙ ap (λ (n : ℕ). max n (oneIf (eqb (start % 64) q))) joined
     ∙ with-start (start % 64) q (a q || (b q || d q))
 
 -- whether a start, move or stop line names the state q, by the first k moves and the first n stop lines
