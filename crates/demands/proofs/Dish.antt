@@ -36,10 +36,10 @@ dish-read = refl
 
 -- ---- its moves, and its valid products
 
-has-raise : List·Memᴰ raise (dish .moves)
+pub has-raise : List·Memᴰ raise (dish .moves)
 has-raise = List·Memᴰ·tail (List·Memᴰ·tail (List·Memᴰ·tail (List·Memᴰ·tail (List·Memᴰ·head refl))))
 
-has-stow : List·Memᴰ stow (dish .moves)
+pub has-stow : List·Memᴰ stow (dish .moves)
 has-stow = List·Memᴰ·tail (List·Memᴰ·tail (List·Memᴰ·tail (List·Memᴰ·head refl)))
 
 has-calm : List·Memᴰ calm (dish .moves)
@@ -99,7 +99,7 @@ unfolding holds
 reached-two {p} v = by {m = stow} has-stow (reached-one v) refl
 
 -- what is true of the five moves is true of every move of the sheet
-moves-each : (P : Move → Type 0) → P raise → P stow → P calm → P level → P done → {m : Move} → List·Memᴰ m (dish .moves) → P m
+pub moves-each : (P : Move → Type 0) → P raise → P stow → P calm → P level → P done → {m : Move} → List·Memᴰ m (dish .moves) → P m
 moves-each P a b c d e i = each P (e, (d, (c, (b, (a, tt))))) i
 
 -- a way to q has q moves at least

@@ -5,6 +5,7 @@ pub mod Decided
 pub mod Exists
 pub mod Facts
 pub mod Dish
+pub mod Folded
 pub mod Pieced
 pub mod Three
 pub mod Table

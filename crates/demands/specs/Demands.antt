@@ -31,6 +31,8 @@ use Rattle.running.specs.Ways.{Stands, Carries}
 use Rattle.running.specs.Promise.{nowhere, SetsUp, Acts}
 use Rattle.running.specs.Runs.{Run}
 use Rattle.running.specs.Shown.{rowOf as boxRow}
+use Rattle.demands.specs.Printed.{bytes}
+use Rattle.demands.specs.Examples.{dishText}
 
 -- ---- demand 1: any bytes, any room: the work or a refusal from the table. What is so of both calls with one room is said once, of a call that promises
 -- P of the sheet, the room before, the room after and the answer; P is ReportPromise or CleanPromise.
@@ -183,6 +185,14 @@ NameRefusedIfNoWay =
 -- names-lead-where-it-reaches: the ways that carry names lead to the states that the product reaches, and to no others.
 abbrev pub NamesLeadWhereItReaches : Type 0
 NamesLeadWhereItReaches = (r : Sheet) (p q : ℕ) → ((names : List (List ℕ)) × Carries r p names q) ↔ Reached r p q
+
+-- boat-stays-folded: as the harbour saw it. With document 01's sheet the box of product 2, the boat without a gauge, stands in state 2 and nowhere else
+-- after raise and stow, and every name is refused then and leaves it there.
+abbrev pub BoatStaysFolded : Type 0
+BoatStaysFolded =
+    (b : RunningBox) → Run dishText 2 (bytes "stow" ∷ bytes "raise" ∷ []) b
+    → Stands b (λ q. q ≡ 2)
+    × ((name : List ℕ) (a : BoxAnswer) (after : RunningBox) → Acts dishText b name a after → (a ≡ box.Refused (refusal 19 0)) × (after ≡ b))
 
 -- set-up-determined, act-determined: any two answers, with the boxes after them, that meet one promise are equal.
 abbrev pub SetUpDetermined : Type 0

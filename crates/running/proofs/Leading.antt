@@ -1,7 +1,7 @@
 -- "As long as the same sheet is lent, the place is exactly the ends of the ways that carry the names accepted so far." By the calls, one after
 -- another. Assumes nothing.
 use mathlib.Core.Bool.{true, false}
-use mathlib.Core.List.{List, [], _∷_}
+use mathlib.Core.List.{List, [], _∷_, List·Memᴰ}
 use mathlib.Core.Logic.{inl, inr}
 use mathlib.Core.Path.{_≡_, refl, sym, _∙_}
 use Prim.Native.Nat.{ℕ}
@@ -9,7 +9,8 @@ use native.Mathlib.Omega.{arith}
 use Rattle.products.proofs.Bits.{zero-bit}
 use Rattle.refusals.specs.declared.Refusal.{Refusal}
 use Rattle.refusals.specs.Refusal.{refusal}
-use Rattle.sheet.specs.Sheet.{Sheet, isValid}
+use Rattle.guards.specs.Guard.{holds}
+use Rattle.sheet.specs.Sheet.{Move, Sheet, isValid}
 use Rattle.sheet.specs.Reading.{kept, readSheet}
 use Rattle.sheet.proofs.Accepted.{kept-refused}
 use Rattle.running.specs.declared.RunningBox.{RunningBox}
@@ -26,6 +27,25 @@ start-only none = refl
 start-way : {r : Sheet} {p q : ℕ} → q ≡ r .start → Carries r p [] q
 start-way e = rw e none
 
+-- a way that carries a name behind others ends with a move of that name
+pub record Last (r : Sheet) (p : ℕ) (name : List ℕ) (names : List (List ℕ)) (q : ℕ) : Type 0 where
+  pub move : Move
+  pub listed : List·Memᴰ move (r .moves)
+  pub named : move .action ≡ name
+  pub before : Carries r p names (move .from)
+  pub makes : holds (move .guard) p ≡ true
+  pub to : move .to ≡ q
+
+pub last-move : {r : Sheet} {p : ℕ} {name : List ℕ} {names : List (List ℕ)} {q : ℕ} → Carries r p (name ∷ names) q → Last r p name names q
+last-move {r} {p} {name} {names} c = go c refl
+  where
+    go : {q : ℕ} {l : List (List ℕ)} → Carries r p l q → l ≡ name ∷ names → Last r p name names q
+    go none e = let z : _≡_ {A = ℕ} 0 1 = cc in absurd (omega arith)
+    go (more {names = l} {m} i w h) e =
+        let n : m .action ≡ name = cc in
+        let k : l ≡ names = cc in
+        record { move = m; listed = i; named = n; before = rw k at w; makes = h; to = refl }
+
 module _ {r : Sheet} {p : ℕ} {names : List (List ℕ)} {b : RunningBox} (is : b .product ≡ p) (at : Stands b (Carries r p names)) {name : List ℕ} where
   -- an end is the end of a way that carries one name more
   one-more : {q : ℕ} → Ends r b name q → Carries r p (name ∷ names) q
@@ -33,14 +53,9 @@ module _ {r : Sheet} {p : ℕ} {names : List (List ℕ)} {b : RunningBox} (is : 
 
   -- and the other way round
   last-one : {q : ℕ} → Carries r p (name ∷ names) q → Ends r b name q
-  last-one c = go c refl
-    where
-      go : {q : ℕ} {l : List (List ℕ)} → Carries r p l q → l ≡ name ∷ names → Ends r b name q
-      go none e = let z : _≡_ {A = ℕ} 0 1 = cc in absurd (omega arith)
-      go (more {names = l} {m} i w h) e =
-          let n : m .action ≡ name = cc in
-          let k : l ≡ names = cc in
-          record { move = m; listed = i; named = n; from = at .every (m .from) (rw k at w); makes = rw is h; to = refl }
+  last-one c =
+      let l = last-move c in
+      record { move = l .move; listed = l .listed; named = l .named; from = at .every (l .move .from) (l .before); makes = rw is (l .makes); to = l .to }
 
 -- where a run has led
 pub record Led (r : Sheet) (p : ℕ) (names : List (List ℕ)) (b : RunningBox) : Type 0 where

@@ -116,8 +116,10 @@ module _ {M : Type 1} (𝓤 : URA M) (H : Heap 𝓤) (A : Atoms 𝓤) (W : Given
       → ent 𝓤 (⋆ 𝓤 H A ((‵ (flft κ q) ⊛ ‵ (flft κ″ q″) ⊛ ‵ ftrue) ∷ ‵ Text ∷ ‵ Action ∷ [])) (Post (both (called y z)))
   exits y z e made =
       qed W ((‵ (flft κ q) ⊛ ‵ (flft κ″ q″) ⊛ ‵ ftrue) ∷ ‵ Text ∷ ‵ Action ∷ []) ∵
-      suffices ! _ (ends-at 𝓤 H A act-held.ended stayed (act-held.clauses 𝓤 H A at-mem run) W (((κ, (κ″, tt)), (q, (q″, tt)), tt, a, vals), tt) (both (called y z)) (called y z) (tt, (tt, (tt, tt))) (tt, (tt, (tt, tt)))) $ says ! e $ frame ! $
-      nothing ! $ move ! (2 ∷ 0 ∷ []) $ fjoin ! $ owned ! T.the-row (Is T.the-row) (LL.makes T.the-type T′.the-plain 𝓤 H A) h _ is-box $ fjoin ! $ move ! (1 ∷ 0 ∷ []) $ fjoin ! $ frame ! $
+      suffices ! _ (ends-at 𝓤 H A act-held.ended stayed (act-held.clauses 𝓤 H A at-mem run) W (((κ, (κ″, tt)), (q, (q″, tt)), tt, a, vals), tt) (both (called y z)) (called y z) (tt, (tt, (tt, tt))) (tt, (tt, (tt, tt)))) $
+      says ! e $ frame ! $
+      nothing ! $ move ! (2 ∷ 0 ∷ []) $ fjoin ! $ owned ! T.the-row (Is T.the-row) (LL.makes T.the-type T′.the-plain 𝓤 H A) h _ is-box $ fjoin ! $
+      move ! (1 ∷ 0 ∷ []) $ fjoin ! $ frame ! $
       owned ! D.the-row (Is D.the-row) (LL.makes D.the-type D′.the-plain 𝓤 H A) (called y z) _ made $ done !
 
   module _ (C : Calls 𝓤 H) (Λ : Loops 𝓤 H) (fm : FmC 𝓤 H (W .laws) C) (known : Triple 𝓤 (C #running·act-on) (ActOn 𝓤 H A at-mem run)) where
@@ -133,20 +135,29 @@ module _ {M : Type 1} (𝓤 : URA M) (H : Heap 𝓤) (A : Atoms 𝓤) (W : Given
         -- [text's; text's; action's; action's; token κ″; token κ]
         enter ! C Λ code.function (v ∷ mach h ∷ u ∷ []) _ $
         alloc1 ! (λ l₀. alloc1 ! (λ l₁. alloc1 ! (λ l₂. alloc1 ! (λ l₃. alloc1 ! (λ l₄. alloc1 ! (λ l₅. alloc1 ! (λ l₆. alloc1 ! (λ l₇. alloc0 ! $ params1 ! $
-        pass1 ! (init ! 12 refl (shr-slice-lawful 𝓤 H A W (named 0) κ u8 .typed s (v ∷ []) is-text .0)) $ pass1 ! (init ! 10 refl (LL.lawful T.the-type T′.the-laws 𝓤 H A W .typed h _ is-box .0)) $
+        pass1 ! (init ! 12 refl (shr-slice-lawful 𝓤 H A W (named 0) κ u8 .typed s (v ∷ []) is-text .0)) $
+        pass1 ! (init ! 10 refl (LL.lawful T.the-type T′.the-laws 𝓤 H A W .typed h _ is-box .0)) $
         pass1 ! (init ! 8 refl (shr-slice-lawful 𝓤 H A W (named 1) κ″ u8 .typed t (u ∷ []) is-action .0)) $ pass0 ! $
         assigns ! (of-opd ! (load ! (from ! (stop !)) (look ! 10 refl))) (from ! (stop !)) (init ! 6 refl (LL.lawful T.the-type T′.the-laws 𝓤 H A W .typed h _ is-box .0)) $
         assigns ! (addr ! (from ! (stop !))) (from ! (stop !)) (init ! 2 refl (tt, tt)) $
         -- the box in _4 is lent for a lifetime ν that is made for the call
-        move ! (6 ∷ []) $ owned ! T.the-row (Is T.the-row) (LL.makes T.the-type T′.the-plain 𝓤 H A) h _ is-box $ move ! (1 ∷ 0 ∷ []) $ use2 W (‵ (partAt T.the-row fullShare h l₄ 0)) (into 𝓤 H A W h l₄) $
-        lft-new ! tt (λ ν. move ! (1 ∷ []) $ use1 W (later (some (λ (δ : GName). ‵ (Mut ν l₄ δ) ⊛ ‵ (flent (ν ∷ []) (Body (mem T.the-row) l₄ 0 δ))))) (lends-ref 𝓤 H A W T.the-row (named 1) (ν ∷ []) h l₄ 0) $ await ! tt $ pick ! (λ δ. split ! $
+        move ! (6 ∷ []) $ owned ! T.the-row (Is T.the-row) (LL.makes T.the-type T′.the-plain 𝓤 H A) h _ is-box $ move ! (1 ∷ 0 ∷ []) $
+        use2 W (‵ (partAt T.the-row fullShare h l₄ 0)) (into 𝓤 H A W h l₄) $
+        lft-new ! tt (λ ν. move ! (1 ∷ []) $
+        use1 W (later (some (λ (δ : GName). ‵ (Mut ν l₄ δ) ⊛ ‵ (flent (ν ∷ []) (Body (mem T.the-row) l₄ 0 δ))))) (lends-ref 𝓤 H A W T.the-row (named 1) (ν ∷ []) h l₄ 0) $
+        await ! tt $ pick ! (λ δ. split ! $
         -- [the reference; the lender's part; token ν; _7; …; _6; …; _5; …; what frees _4; _3; …; _2; …; _1; …; room for _0; …; text's; text's; action's; action's; token κ″; token κ]
-        move ! (2 ∷ 22 ∷ []) $ join ! $ move ! (22 ∷ 0 ∷ []) $ join ! $ move ! (1 ∷ 20 ∷ []) $ join ! $ move ! (18 ∷ 0 ∷ []) $ join ! $ use2 W (raw (ActOn 𝓤 H A at-mem run .pre (to ν l₄ δ))) (goes ν l₄ δ) $
+        move ! (2 ∷ 22 ∷ []) $ join ! $ move ! (22 ∷ 0 ∷ []) $ join ! $ move ! (1 ∷ 20 ∷ []) $ join ! $ move ! (18 ∷ 0 ∷ []) $ join ! $
+        use2 W (raw (ActOn 𝓤 H A at-mem run .pre (to ν l₄ δ))) (goes ν l₄ δ) $
         calls-at ! fm (ActOn 𝓤 H A at-mem run) known (to ν l₄ δ) (and-then ! (load ! (from ! (stop !)) (look ! 13 refl)) (and-then ! (load ! (from ! (stop !)) (look ! 4 refl)) (and-then ! (load ! (from ! (stop !)) (look ! 9 refl)) (no-more !)))) (λ w.
-        use1 W (later (some (λ (y : Answer). ((‵ (flft κ q) ⊛ ‵ (flft (ν ∷ []) fullShare) ⊛ ‵ (flft κ″ q″) ⊛ ‵ ftrue) ⊛ ‵ (S.the-row .own y (w ∷ []))) ⊛ raw (ensured 𝓤 H A act-on.ended (act-on.clauses 𝓤 H A at-mem run) (κ, (ν ∷ [], (κ″, tt))) (s, (x l₄ δ, (t, tt))) tt y)))) (id⊢ 𝓤 _) $ await ! tt $ pick ! (λ y.
+        use1 W (later (some (λ (y : Answer). ((‵ (flft κ q) ⊛ ‵ (flft (ν ∷ []) fullShare) ⊛ ‵ (flft κ″ q″) ⊛ ‵ ftrue) ⊛ ‵ (S.the-row .own y (w ∷ []))) ⊛ raw (ensured 𝓤 H A act-on.ended (act-on.clauses 𝓤 H A at-mem run) (κ, (ν ∷ [], (κ″, tt))) (s, (x l₄ δ, (t, tt))) tt y)))) (id⊢ 𝓤 _) $
+        await ! tt $ pick ! (λ y.
         -- what `act_on` ensures, at some last box
-        split ! $ move ! (1 ∷ []) $ use1 W (some (λ (zs : Unit {0} × (RunningBox × (Unit {0} × Unit {0}))). ‵ (lasts act-on.ended (κ, (ν ∷ [], (κ″, tt))) (s, (x l₄ δ, (t, tt))) zs) ⊛ raw (fact 𝓤 (Acts (now s) h (now t) y (zs .1 .0))))) (id⊢ 𝓤 _) $ pick ! (λ zs.
-        split ! $ move ! (1 ∷ []) $ heard ! (Acts (now s) h (now t) y (zs .1 .0)) (λ e. fsplit ! $ drop ! $ fsplit ! $ move ! (1 ∷ []) $ drop ! $ move ! (1 ∷ []) $ split ! $ move ! (1 ∷ []) $
+        split ! $ move ! (1 ∷ []) $
+        use1 W (some (λ (zs : Unit {0} × (RunningBox × (Unit {0} × Unit {0}))). ‵ (lasts act-on.ended (κ, (ν ∷ [], (κ″, tt))) (s, (x l₄ δ, (t, tt))) zs) ⊛ raw (fact 𝓤 (Acts (now s) h (now t) y (zs .1 .0))))) (id⊢ 𝓤 _) $
+        pick ! (λ zs.
+        split ! $ move ! (1 ∷ []) $ heard ! (Acts (now s) h (now t) y (zs .1 .0)) (λ e. fsplit ! $ drop ! $ fsplit ! $ move ! (1 ∷ []) $ drop ! $ move ! (1 ∷ []) $
+        split ! $ move ! (1 ∷ []) $
         -- [the result; the tokens; the last value; the lender's part; _7; …; _6; …; room for _5; …; what frees _4; _3; …; _2; …; _1; …; room for _0; …; text's; action's]
         peeks ! S.the-row (Is S.the-row) (shows 𝓤 H A S.the-row) y (w ∷ []) (λ is.
         land ! (from ! (stop !)) (init ! 8 refl (EL.lawful S.the-type S′.the-laws 𝓤 H A W tt .typed y _ is .0)) $
@@ -154,13 +165,16 @@ module _ {M : Type 1} (𝓤 : URA M) (H : Heap 𝓤) (A : Atoms 𝓤) (W : Given
         -- the lifetime is ended, and the box is taken back at its last value
         drop ! $ split ! $ move ! (1 ∷ []) $ split ! $ lft-end ! tt $ move ! (0 ∷ 4 ∷ 3 ∷ []) $
         use3 W (later (‵ (partAt T.the-row fullShare (zs .1 .0) l₄ 0))) (ref-back 𝓤 H A W T.the-row (ν ∷ []) δ (zs .1 .0) l₄ 0) $ await ! tt $
-        use1 W (‵ (fat fullShare T′.mir l₄ 0 (mach (zs .1 .0))) ⊛ ‵ (T.the-row .own (zs .1 .0) (mach (zs .1 .0) ∷ []))) (out 𝓤 H A W (zs .1 .0) l₄) $ split ! $ move ! (1 ∷ []) $
+        use1 W (‵ (fat fullShare T′.mir l₄ 0 (mach (zs .1 .0))) ⊛ ‵ (T.the-row .own (zs .1 .0) (mach (zs .1 .0) ∷ []))) (out 𝓤 H A W (zs .1 .0) l₄) $ split ! $
+        move ! (1 ∷ []) $
         peeks ! T.the-row (Is T.the-row) (shows 𝓤 H A T.the-row) (zs .1 .0) (mach (zs .1 .0) ∷ []) (λ g. drop ! $
         -- [_4; tokens κ″ and true; token κ; _7; …; _6; …; _5; …; what frees _4; _3; …; _2; …; _1; …; room for _0; …; text's; action's]
         assigns ! (of-opd ! (load ! (from ! (stop !)) (look ! 0 refl))) (from ! (stop !)) (init ! 3 refl (LL.lawful T.the-type T′.the-laws 𝓤 H A W .typed (zs .1 .0) _ g .0)) $
         assigns ! (agg ! (and-then ! (load ! (from ! (stop !)) (look ! 7 refl)) (and-then ! (load ! (from ! (stop !)) (look ! 3 refl)) (no-more !)))) (from ! (stop !)) (init ! 16 refl (LL.lawful D.the-type D′.the-laws 𝓤 H A W .typed (called y (zs .1 .0)) _ (made y (zs .1 .0) w is g) .0)) $
-        returns ! (look ! 16 refl) $ forget ! 0 refl $ forget ! 3 refl $ forget ! 5 refl $ forget ! 7 refl $ forget ! 10 refl $ forget ! 12 refl $ forget ! 14 refl $ forget ! 16 refl $
-        move ! (16 ∷ 17 ∷ []) $ free1 ! $ move ! (14 ∷ 15 ∷ []) $ free1 ! $ move ! (12 ∷ 13 ∷ []) $ free1 ! $ move ! (10 ∷ 11 ∷ []) $ free1 ! $ move ! (0 ∷ 9 ∷ []) $ free1 ! $ move ! (6 ∷ 7 ∷ []) $ free1 ! $ move ! (4 ∷ 5 ∷ []) $ free1 ! $ move ! (2 ∷ 3 ∷ []) $ free1 ! $ free0 ! $
+        returns ! (look ! 16 refl) $ forget ! 0 refl $ forget ! 3 refl $ forget ! 5 refl $ forget ! 7 refl $ forget ! 10 refl $ forget ! 12 refl $ forget ! 14 refl $
+        forget ! 16 refl $
+        move ! (16 ∷ 17 ∷ []) $ free1 ! $ move ! (14 ∷ 15 ∷ []) $ free1 ! $ move ! (12 ∷ 13 ∷ []) $ free1 ! $ move ! (10 ∷ 11 ∷ []) $ free1 ! $ move ! (0 ∷ 9 ∷ []) $
+        free1 ! $ move ! (6 ∷ 7 ∷ []) $ free1 ! $ move ! (4 ∷ 5 ∷ []) $ free1 ! $ move ! (2 ∷ 3 ∷ []) $ free1 ! $ free0 ! $
         move ! (1 ∷ 0 ∷ []) $ join ! $ by ! (exits y (zs .1 .0) e (made y (zs .1 .0) w is g))))))))))))))))))
 
 module _ {M : Type 1} (𝓤 : URA M) (H : Heap 𝓤) (A : Atoms 𝓤) (W : Given 𝓤 H A) (at-mem : Memory → SProp 𝓤) (run : Routine → Fun 𝓤) where

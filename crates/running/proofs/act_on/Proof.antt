@@ -100,7 +100,8 @@ module _ {M : Type 1} (𝓤 : URA M) (H : Heap 𝓤) (A : Atoms 𝓤) (W : Given
   goes g =
       qed W ((‵ (flft κ q) ⊛ ‵ (flft κ″ q″)) ∷ (‵ Text ⊛ ‵ Action) ∷ []) ∵ move ! (1 ∷ []) $ split ! $
       -- [text's; action's; both tokens]
-      nothing ! $ move ! (2 ∷ 0 ∷ []) $ fjoin ! $ owned ! T.the-row (Is T.the-row) (LL.makes T.the-type T′.the-plain 𝓤 H A) h _ g $ fjoin ! $ move ! (1 ∷ 0 ∷ []) $ fjoin ! $
+      nothing ! $ move ! (2 ∷ 0 ∷ []) $ fjoin ! $ owned ! T.the-row (Is T.the-row) (LL.makes T.the-type T′.the-plain 𝓤 H A) h _ g $ fjoin ! $ move ! (1 ∷ 0 ∷ []) $
+      fjoin ! $
       -- [what the callee's parameters own; both tokens]
       move ! (1 ∷ []) $ split ! $ nothing ! $ move ! (2 ∷ 0 ∷ []) $ join ! $ move ! (1 ∷ 0 ∷ []) $ join ! $ join ! $ frame ! $ done !
 
@@ -111,11 +112,13 @@ module _ {M : Type 1} (𝓤 : URA M) (H : Heap 𝓤) (A : Atoms 𝓤) (W : Given
       → ent 𝓤 (⋆ 𝓤 H A (‵ (fobs γ (T.the-row .coded .code (x .after))) ∷ ‵ (fbor κ′ (Body (mem T.the-row) b o γ)) ∷ ‵ (flft κ′ q′) ∷ (‵ (flft κ q) ⊛ ‵ (flft κ″ q″) ⊛ ‵ ftrue) ∷ ‵ Text ∷ ‵ Action ∷ [])) (Post (told (x .answer)))
   exits x e is =
       qed W (‵ (fobs γ (T.the-row .coded .code (x .after))) ∷ ‵ (fbor κ′ (Body (mem T.the-row) b o γ)) ∷ ‵ (flft κ′ q′) ∷ (‵ (flft κ q) ⊛ ‵ (flft κ″ q″) ⊛ ‵ ftrue) ∷ ‵ Text ∷ ‵ Action ∷ []) ∵
-      suffices ! _ (ends-at 𝓤 H A act-on.ended stayed (act-on.clauses 𝓤 H A at-mem run) W (((κ, (κ′, (κ″, tt))), (q, (q′, (q″, tt))), tt, a, vals), tt) (told (x .answer)) (x .answer) (tt, (x .after, (tt, tt))) (tt, (tt, (tt, tt)))) $ says ! e $
+      suffices ! _ (ends-at 𝓤 H A act-on.ended stayed (act-on.clauses 𝓤 H A at-mem run) W (((κ, (κ′, (κ″, tt))), (q, (q′, (q″, tt))), tt, a, vals), tt) (told (x .answer)) (x .answer) (tt, (x .after, (tt, tt))) (tt, (tt, (tt, tt)))) $
+      says ! e $
       -- the three tokens
       move ! (3 ∷ []) $ split ! $ move ! (4 ∷ 1 ∷ []) $ join ! $ move ! (1 ∷ 0 ∷ []) $ join ! $ frame ! $
       -- what is had of the parameters: [obs; the borrow; text's; action's]
-      feqI ! (List Val) (vptr b o ∷ []) (vptr b o ∷ []) refl $ fjoin3 ! $ nothing ! $ move ! (3 ∷ 0 ∷ []) $ fjoin ! $ move ! (1 ∷ 0 ∷ []) $ fjoin ! $ move ! (1 ∷ 0 ∷ []) $ fjoin ! $ frame ! $
+      feqI ! (List Val) (vptr b o ∷ []) (vptr b o ∷ []) refl $ fjoin3 ! $ nothing ! $ move ! (3 ∷ 0 ∷ []) $ fjoin ! $ move ! (1 ∷ 0 ∷ []) $ fjoin ! $
+      move ! (1 ∷ 0 ∷ []) $ fjoin ! $ frame ! $
       -- the result
       owned ! S.the-row (Is S.the-row) (EL.makes S.the-type S′.the-plain 𝓤 H A) (x .answer) _ is $ done !
 
@@ -136,15 +139,18 @@ module _ {M : Type 1} (𝓤 : URA M) (H : Heap 𝓤) (A : Atoms 𝓤) (W : Given
         pass1 ! (init ! 8 refl (shr-slice-lawful 𝓤 H A W (named 0) κ u8 .typed s (v ∷ []) is-text .0)) $ pass1 ! (init ! 6 refl (tt, tt)) $
         pass1 ! (init ! 4 refl (shr-slice-lawful 𝓤 H A W (named 2) κ″ u8 .typed t (u ∷ []) is-action .0)) $ pass0 ! $
         -- the borrow is opened
-        move ! (12 ∷ 13 ∷ 19 ∷ []) $ opens ! tt T.the-row {h = h} b o (λ vs. spelt ! T.the-row (Is T.the-row) (shows 𝓤 H A T.the-row) (LL.vals T.the-type T′.the-laws) (LL.tells T.the-type T′.the-laws) fullShare h vs b o $
+        move ! (12 ∷ 13 ∷ 19 ∷ []) $
+        opens ! tt T.the-row {h = h} b o (λ vs. spelt ! T.the-row (Is T.the-row) (shows 𝓤 H A T.the-row) (LL.vals T.the-type T′.the-laws) (LL.tells T.the-type T′.the-laws) fullShare h vs b o $
         move ! (1 ∷ []) $ peeks ! T.the-row (Is T.the-row) (shows 𝓤 H A T.the-row) h (mach h ∷ []) (λ g. drop ! $
         -- [the box's cell; the open borrow; obs; auth; _5; …; _4; …; _3; …; _2; …; _1; …; room for _0; …; text's; text's; action's; action's; token κ″; token κ]
         assigns ! (of-opd ! (load ! (from ! (hop ! (look ! 10 refl) (stop !))) (look-raw ! 0 refl))) (from ! (stop !)) (init ! 4 refl (LL.lawful T.the-type T′.the-laws 𝓤 H A W .typed h _ g .0)) $
         -- the call
         move ! (16 ∷ 18 ∷ []) $ join ! $ move ! (20 ∷ 19 ∷ []) $ join ! $ use2 W (raw (Act 𝓤 H A at-mem run .pre to)) (goes g) $
         calls-at ! fm (Act 𝓤 H A at-mem run) known to (and-then ! (load ! (from ! (stop !)) (look ! 13 refl)) (and-then ! (load ! (from ! (stop !)) (look ! 5 refl)) (and-then ! (load ! (from ! (stop !)) (look ! 9 refl)) (no-more !)))) (λ w.
-        use1 W (later (some (λ (x : Called). ((‵ (flft κ q) ⊛ ‵ (flft κ″ q″) ⊛ ‵ ftrue) ⊛ ‵ (D.the-row .own x (w ∷ []))) ⊛ raw (ensured 𝓤 H A act.ended (act.clauses 𝓤 H A at-mem run) (κ, (κ″, tt)) (s, (h, (t, tt))) tt x)))) (id⊢ 𝓤 _) $ await ! tt $ pick ! (λ x.
-        split ! $ move ! (1 ∷ []) $ use1 W (raw (fact 𝓤 (Acts (now s) h (now t) (x .answer) (x .after)))) (said x) $ heard ! (Acts (now s) h (now t) (x .answer) (x .after)) (λ e. split ! $ move ! (1 ∷ []) $
+        use1 W (later (some (λ (x : Called). ((‵ (flft κ q) ⊛ ‵ (flft κ″ q″) ⊛ ‵ ftrue) ⊛ ‵ (D.the-row .own x (w ∷ []))) ⊛ raw (ensured 𝓤 H A act.ended (act.clauses 𝓤 H A at-mem run) (κ, (κ″, tt)) (s, (h, (t, tt))) tt x)))) (id⊢ 𝓤 _) $
+        await ! tt $ pick ! (λ x.
+        split ! $ move ! (1 ∷ []) $ use1 W (raw (fact 𝓤 (Acts (now s) h (now t) (x .answer) (x .after)))) (said x) $
+        heard ! (Acts (now s) h (now t) (x .answer) (x .after)) (λ e. split ! $ move ! (1 ∷ []) $
         -- [the result; the tokens; the box's cell; the open borrow; obs; auth; _5; …; room for _4; …; _3; …; _2; …; _1; …; room for _0; …; text's; action's]
         peeks ! D.the-row (Is D.the-row) (shows 𝓤 H A D.the-row) x (w ∷ []) (λ is.
         land ! (from ! (stop !)) (init ! 8 refl (LL.lawful D.the-type D′.the-laws 𝓤 H A W .typed x _ is .0)) $
@@ -152,10 +158,12 @@ module _ {M : Type 1} (𝓤 : URA M) (H : Heap 𝓤) (A : Atoms 𝓤) (W : Given
         assigns ! (of-opd ! (load ! (from ! (fld ! refl (stop !))) (look-in ! 8 (sub ! 1 refl (whole !))))) (from ! (hop ! (look ! 12 refl) (stop !))) (store-raw ! 2 refl (LL.lawful T.the-type T′.the-laws 𝓤 H A W .typed (x .after) _ (LL.owed D.the-type D′.the-laws x _ is .1 .0) .0)) $
         assigns ! (of-opd ! (load ! (from ! (fld ! refl (stop !))) (look-in ! 8 (sub ! 0 refl (whole !))))) (from ! (stop !)) (init ! 16 refl (EL.lawful S.the-type S′.the-laws 𝓤 H A W tt .typed (x .answer) _ (LL.owed D.the-type D′.the-laws x _ is .0) .0)) $
         -- the borrow is closed at the new box
-        drop ! $ owned ! T.the-row (Is T.the-row) (LL.makes T.the-type T′.the-plain 𝓤 H A) (x .after) _ (LL.owed D.the-type D′.the-laws x _ is .1 .0) $ move ! (2 ∷ 0 ∷ 3 ∷ 4 ∷ 5 ∷ []) $ closes ! tt T.the-row (x .after) (mach (x .after) ∷ []) b o $
+        drop ! $ owned ! T.the-row (Is T.the-row) (LL.makes T.the-type T′.the-plain 𝓤 H A) (x .after) _ (LL.owed D.the-type D′.the-laws x _ is .1 .0) $
+        move ! (2 ∷ 0 ∷ 3 ∷ 4 ∷ 5 ∷ []) $ closes ! tt T.the-row (x .after) (mach (x .after) ∷ []) b o $
         -- [obs; the borrow; token κ′; the tokens; _5; …; _4; …; _3; …; _2; …; _1; …; _0; …; text's; action's]
         returns ! (look ! 14 refl) $ forget ! 4 refl $ forget ! 6 refl $ forget ! 8 refl $ forget ! 10 refl $ forget ! 12 refl $ forget ! 14 refl $
-        move ! (14 ∷ 15 ∷ []) $ free1 ! $ move ! (12 ∷ 13 ∷ []) $ free1 ! $ move ! (10 ∷ 11 ∷ []) $ free1 ! $ move ! (8 ∷ 9 ∷ []) $ free1 ! $ move ! (6 ∷ 7 ∷ []) $ free1 ! $ move ! (4 ∷ 5 ∷ []) $ free1 ! $ free0 ! $
+        move ! (14 ∷ 15 ∷ []) $ free1 ! $ move ! (12 ∷ 13 ∷ []) $ free1 ! $ move ! (10 ∷ 11 ∷ []) $ free1 ! $ move ! (8 ∷ 9 ∷ []) $ free1 ! $ move ! (6 ∷ 7 ∷ []) $
+        free1 ! $ move ! (4 ∷ 5 ∷ []) $ free1 ! $ free0 ! $
         by ! (exits x e (LL.owed D.the-type D′.the-laws x _ is .0))))))))))))))
 
 module _ {M : Type 1} (𝓤 : URA M) (H : Heap 𝓤) (A : Atoms 𝓤) (W : Given 𝓤 H A) (at-mem : Memory → SProp 𝓤) (run : Routine → Fun 𝓤) where
