@@ -153,13 +153,16 @@ action-cut x name a =
 act-as : (s t : List ℕ) → readSheet s ≡ readSheet t → (b : RunningBox) (x y : List ℕ) → SameEnds x y → SameEnds y x → (a : BoxAnswer) (after : RunningBox)
     → Acts s b x a after → Acts t b y a after
 act-as s t e b x y there back box.Done after (r, f, h) =
-    let ok = accepted s f in
-    (r, sym e ∙ f, record {
-      valid = h .valid;
-      some = (h .some .0, there r ok b (h .some .0) (h .some .1));
-      product = h .product;
-      place = record { only = λ q i. there r ok b q (h .place .only q i); every = λ q i. h .place .every q (back r ok b q i) };
-    })
+    let ok = accepted s f in (
+      r,
+      sym e ∙ f,
+      record {
+        valid = h .valid;
+        some = (h .some .0, there r ok b (h .some .0) (h .some .1));
+        product = h .product;
+        place = record { only = λ q i. there r ok b q (h .place .only q i); every = λ q i. h .place .every q (back r ok b q i) };
+      },
+    )
 act-as s t e b x y there back (box.Refused q) after (z, inl f) = (z, inl (sym e ∙ f))
 act-as s t e b x y there back (box.Refused q) after (z, inr (r, f, inl n)) = (z, inr (r, sym e ∙ f, inl n))
 act-as s t e b x y there back (box.Refused q) after (z, inr (r, f, inr n)) =

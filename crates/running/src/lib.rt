@@ -35,7 +35,8 @@ pub struct Called {
     pub after: RunningBox,
 }
 
-// Sets a box up with the sheet `text` and a product. Refused as the sheet is, then by 12.
+// Sets a box up with the sheet `text` and a product. Refused as the sheet is, then by 12, and then the box has
+// product 0 and an empty place.
 pub fn set_up(text: &[u8], product: usize) -> Called
     ensures { λ r. ⌜ SetsUp (now (text .entry)) product (r .answer) (r .after) ⌝ }
 {

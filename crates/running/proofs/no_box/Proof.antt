@@ -1,0 +1,8 @@
+-- `no_box` meets its contract, which is an equation. Assumes nothing.
+use mathlib.Core.Path.{refl}
+use borrow.Author.Needs.{needs}
+use Rattle.running.proofs.no_box.Statement.{statement}
+use Rattle.running.proofs.no_box.Tie as tie
+
+pub no-box-spec : {M : Type 1} → statement M
+no-box-spec = tie.close (tie.spec (λ c. refl))
