@@ -4,8 +4,7 @@ use mathlib.Core.Bool.{true}
 use mathlib.Core.List.{List, [], _∷_}
 use mathlib.Core.Logic.{_⊎_, _↔_, inl, inr, ⊎-elim}
 use mathlib.Core.Path.{_≡_, refl, sym, ap, _∙_}
-use Prim.Native.Nat.{ℕ, _-_, _≤_, _<_}
-use native.Mathlib.Nat.{eq-zero-or-pos}
+use Prim.Native.Nat.{ℕ, _-_, _≤_}
 use native.Mathlib.Omega.{arith}
 use lib.ListN.{length, take, length-take}
 use lib.Seq.{take-all}
@@ -14,16 +13,15 @@ use Rattle.refusals.specs.declared.Refusal.{Refusal}
 use Rattle.refusals.specs.Refusal.{refusal}
 use Rattle.values.proofs.Names.{action-names}
 use Rattle.sheet.specs.Sheet.{Sheet}
-use Rattle.sheet.specs.Reading.{kept, refused, readSheet}
+use Rattle.sheet.specs.Reading.{kept, readSheet}
 use Rattle.sheet.specs.Accepted.{Accepted}
 use Rattle.sheet.proofs.Accepted.{accepted, good-move, refused-number}
 use Rattle.family.specs.Ways.{Reached, begin, by}
 use Rattle.running.specs.declared.RunningBox.{RunningBox}
 use Rattle.running.specs.declared.Answer.{Answer as BoxAnswer}
 use Rattle.running.specs.declared.Answer.the-variants as box
-use Rattle.running.specs.Ways.{Stands, Ends, Carries, none, more}
-use Rattle.running.specs.Promise.{nowhere, NotValid, NoMove, Refuses, SetsUp, Went, Acts}
-use Rattle.running.specs.Runs.{Run}
+use Rattle.running.specs.Ways.{Ends, Carries, none, more}
+use Rattle.running.specs.Promise.{nowhere, SetsUp, Acts}
 use Rattle.running.specs.Shown.{rowOf as boxRow}
 use Rattle.running.proofs.Determined.{same-sheet, set-up-once, act-once}
 use Rattle.running.proofs.Leading.{Led, led, done-way, refused-no-way, nowhere-led}

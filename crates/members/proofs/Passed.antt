@@ -2,12 +2,12 @@
 -- it says where the search ends. Assumes nothing.
 use mathlib.Core.Path.{_≡_, sym, _∙_}
 use mathlib.Core.List.{List}
-use Prim.Native.Nat.{ℕ, zero, suc, _+_, _*_, _/_, _%_, _^_, _<_, _≤_}
+use Prim.Native.Nat.{ℕ, zero, suc, _+_, _*_, _^_, _<_, _≤_}
 use native.Mathlib.Omega.{arith}
 use native.Mathlib.Numerals.{add-one}
 use borrow.Author.Count.{below-more}
 use lib.ListN.{getD}
-use Rattle.products.specs.Sets.{bit, has, Picked, Least}
+use Rattle.products.specs.Sets.{bit, Picked, Least}
 use Rattle.products.proofs.Bits.{zero-bit, some-bit}
 use Rattle.products.proofs.Laws.{has-at}
 

@@ -1,7 +1,7 @@
 -- A report has at most 9,545 bytes: 25 for each of 256 moves, 26 for each of 64 states, 23 for each of 64 stop lines, 9 for the depth. The one idea:
 -- no row is longer, whatever its verdict, since no number in it has more digits than its bound. Assumes nothing.
-use mathlib.Core.List.{List, [], _∷_, _++_}
-use Prim.Native.Nat.{ℕ, zero, suc, _+_, _*_, _≤_, _<_}
+use mathlib.Core.List.{List, [], _∷_}
+use Prim.Native.Nat.{ℕ, _*_, _≤_}
 use native.Mathlib.Omega.{arith}
 use lib.ListN.{length, length-append}
 use Rattle.products.specs.declared.Found.the-variants.{At, Nothing}

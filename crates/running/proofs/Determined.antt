@@ -10,12 +10,12 @@ use Rattle.products.specs.Sets.{bit}
 use Rattle.states.proofs.Laws.{same-states}
 use Rattle.refusals.specs.declared.Refusal.{Refusal}
 use Rattle.sheet.specs.Sheet.{Sheet, isValid}
-use Rattle.sheet.specs.Reading.{kept, refused, readSheet}
+use Rattle.sheet.specs.Reading.{kept, readSheet}
 use Rattle.sheet.proofs.Accepted.{kept-refused}
 use Rattle.running.specs.declared.RunningBox.{RunningBox}
 use Rattle.running.specs.declared.Answer.{Answer}
 use Rattle.running.specs.declared.Answer.the-variants.{Done, Refused}
-use Rattle.running.specs.Ways.{At, Stands, Ends}
+use Rattle.running.specs.Ways.{Stands}
 use Rattle.running.specs.Promise.{NotValid, NoMove, Refuses, Begun, SetsUp, Went, Acts}
 
 -- ---- a place is told by its states

@@ -1,6 +1,6 @@
 -- "As long as the same sheet is lent, the place is exactly the ends of the ways that carry the names accepted so far." By the calls, one after
 -- another. Assumes nothing.
-use mathlib.Core.Bool.{true, false}
+use mathlib.Core.Bool.{true}
 use mathlib.Core.List.{List, [], _∷_, List·Memᴰ}
 use mathlib.Core.Logic.{inl, inr}
 use mathlib.Core.Path.{_≡_, refl, sym, _∙_}
@@ -15,7 +15,7 @@ use Rattle.sheet.specs.Reading.{kept, readSheet}
 use Rattle.sheet.proofs.Accepted.{kept-refused}
 use Rattle.running.specs.declared.RunningBox.{RunningBox}
 use Rattle.running.specs.declared.Answer.the-variants.{Done, Refused}
-use Rattle.running.specs.Ways.{At, Stands, Ends, Carries, none, more}
+use Rattle.running.specs.Ways.{Stands, Ends, Carries, none, more}
 use Rattle.running.specs.Promise.{nowhere, Went, Acts}
 use Rattle.running.specs.Runs.{Run, set-up, went, stayed}
 use Rattle.running.proofs.Determined.{same-sheet, not-both}

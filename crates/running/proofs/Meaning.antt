@@ -3,13 +3,13 @@ use mathlib.Core.Bool.{Bool, true, false, not}
 use mathlib.Core.List.{List, [], List·Memᴰ}
 use mathlib.Core.Logic.{⊎-elim, inl, inr}
 use mathlib.Core.Path.{_≡_, refl, sym, ap, _∙_}
-use Prim.Native.Nat.{ℕ, _-_, _^_, _≤_, _<_, min, max}
+use Prim.Native.Nat.{ℕ, _-_, _^_, _<_, min, max}
 use native.Mathlib.Nat.{eq-zero-or-pos}
 use native.Mathlib.Omega.{arith}
 use borrow.Author.Tests.{not-true, not-false}
 use lib.Dec.{eqb}
 use lib.ListN.{getD}
-use Rattle.products.specs.Sets.{bit, has, oneIf, In}
+use Rattle.products.specs.Sets.{bit, oneIf, In}
 use Rattle.products.proofs.Bits.{zero-bit, past-bit, some-bit}
 use Rattle.products.proofs.Laws.{one-true}
 use Rattle.refusals.specs.Refusal.{refusal}
@@ -22,7 +22,7 @@ use Rattle.sheet.specs.Tables.{Tables, tables, Rows, MoveRow, StandsFor, ReadIn
 use Rattle.sheet.proofs.Rows.{rows-of, rows-both, rows-in, piece-lies}
 use Rattle.sheet.proofs.Accepted.{accepted, valid-small, good-move}
 use Rattle.running.specs.declared.RunningBox.{RunningBox}
-use Rattle.running.specs.Ways.{At, Stands, Ends}
+use Rattle.running.specs.Ways.{Ends}
 use Rattle.running.specs.declared.Answer.the-variants.{Done, Refused}
 use Rattle.running.specs.Promise.{nowhere, NotValid, NoMove, Begun, SetsUp, Went, Acts}
 use Rattle.running.specs.Inside.{Looks, Added, Gathered, leadsAt}

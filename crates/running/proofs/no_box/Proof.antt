@@ -1,6 +1,5 @@
 -- `no_box` meets its contract, which is an equation. Assumes nothing.
 use mathlib.Core.Path.{refl}
-use borrow.Author.Needs.{needs}
 use Rattle.running.proofs.no_box.Statement.{statement}
 use Rattle.running.proofs.no_box.Tie as tie
 

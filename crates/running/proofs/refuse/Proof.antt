@@ -1,6 +1,5 @@
 -- `refuse` meets its contract, which is an equation. Assumes nothing.
 use mathlib.Core.Path.{refl}
-use borrow.Author.Needs.{needs}
 use Rattle.running.proofs.refuse.Statement.{statement}
 use Rattle.running.proofs.refuse.Tie as tie
 
