@@ -39,7 +39,7 @@ abbrev pub Unended : List ℕ → Type 0
 Unended [] = Unit {0}
 Unended (b ∷ bs) = (b ≡ 10 → ⊥) × Unended bs
 
--- some bytes of which none ends a line were laid from the buffer's begin on, and n is how many; at the end of the input nothing was
+-- some bytes of which none ends a line were laid from the buffer's start on, and n is how many; at the end of the input nothing was
 abbrev pub Lined : List ℕ → List ℕ → Line → Type 0
 Lined before after (line.Of n) = (bytes : List ℕ) × Unended bytes × Wrote before 0 bytes after n
 Lined before after line.End = after ≡ before

@@ -1,5 +1,5 @@
-// What the programs share: one sheet read to its end, lines of standard input, a number on the command
-// line, and bytes on standard output. What the operating system reads and writes no contract can say. So all
+// What the programs share: one sheet read to its end, lines of standard input, numbers in decimal digits,
+// and bytes on standard output. What the operating system reads and writes no contract can say. So all
 // that shapes bytes stands in functions that promise them, and the two that hand bytes over, `print` and
 // `tell`, promise nothing.
 use fields::Number;

@@ -186,13 +186,21 @@ NameRefusedIfNoWay =
 abbrev pub NamesLeadWhereItReaches : Type 0
 NamesLeadWhereItReaches = (r : Sheet) (p q : ℕ) → ((names : List (List ℕ)) × Carries r p names q) ↔ Reached r p q
 
--- boat-stays-folded: as the harbour saw it. With document 01's sheet the box of product 2, the boat without a gauge, stands in state 2 and nowhere else
--- after raise and stow, and every name is refused then and leaves it there.
+-- boat-folds, boat-stays-folded: as the harbour saw it. With document 01's sheet the box of product 2, the boat without a gauge, takes raise and stow. It
+-- stands in state 2 then and nowhere else; every name is refused by 19, and leaves it there.
+abbrev pub folded : List (List ℕ)
+folded = bytes "stow" ∷ bytes "raise" ∷ []
+
+abbrev pub BoatFolds : Type 0
+BoatFolds = (b : RunningBox) × Run dishText 2 folded b
+
 abbrev pub BoatStaysFolded : Type 0
 BoatStaysFolded =
-    (b : RunningBox) → Run dishText 2 (bytes "stow" ∷ bytes "raise" ∷ []) b
-    → Stands b (λ q. q ≡ 2)
-    × ((name : List ℕ) (a : BoxAnswer) (after : RunningBox) → Acts dishText b name a after → (a ≡ box.Refused (refusal 19 0)) × (after ≡ b))
+    (b : RunningBox) → Run dishText 2 folded b → Stands b (λ q. q ≡ 2) × ((name : List ℕ) → Acts dishText b name (box.Refused (refusal 19 0)) b)
+
+-- twelve-given: with the same sheet the set-up of product 0, neither gauge nor boat, is refused by 12.
+abbrev pub TwelveGiven : Type 0
+TwelveGiven = SetsUp dishText 0 (box.Refused (refusal 12 0)) nowhere
 
 -- set-up-determined, act-determined: any two answers, with the boxes after them, that meet one promise are equal.
 abbrev pub SetUpDetermined : Type 0
@@ -215,7 +223,7 @@ BoxTableRefuses =
     → ((p : ℕ) (a : BoxAnswer) (b : RunningBox) → SetsUp s p a b → (a ≡ box.Refused q) × (b ≡ nowhere))
     × ((b : RunningBox) (name : List ℕ) (a : BoxAnswer) (after : RunningBox) → Acts s b name a after → (a ≡ box.Refused q) × (after ≡ b))
 
--- set-up-refusals, act-refusals: the number of a refusal is 1 to 10; or it is 12 and, of an action, 19, with line 0.
+-- set-up-refusals, act-refusals: the number of a refusal is 1 to 10; or it is 12 or, of an action, 19, each with line 0.
 abbrev pub SetUpRefusals : Type 0
 SetUpRefusals = (s : List ℕ) (p : ℕ) (q : Refusal) (b : RunningBox) → SetsUp s p (box.Refused q) b → ((1 ≤ q .number) × (q .number ≤ 10)) ⊎ (q ≡ refusal 12 0)
 

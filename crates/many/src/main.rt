@@ -77,7 +77,7 @@ fn answer(text: &[u8], room: &mut [u8], clean_room: &mut [u8]) -> bool {
     answer_both(text, room, clean_room)
 }
 
-// The number before the next byte 10.
+// The number in the next line. Of a longer line the first bytes are judged, and the last one may lack its end.
 fn read_head() -> Head {
     let mut word = [0u8; MOST_DIGITS];
     let line = console::read_line(&mut word);

@@ -18,7 +18,7 @@ const MOST_WORD: usize = 4095;
 // One byte more than an action can have: of a longer name so many are enough to know that no move has it.
 const NAME_ROOM: usize = 25;
 
-// As long as a line can be that is written here.
+// No line that is written here is longer.
 const LINE_ROOM: usize = 198;
 
 fn main() {

@@ -48,7 +48,7 @@ last-move {r} {p} {name} {names} c = go c refl
 
 module _ {r : Sheet} {p : ℕ} {names : List (List ℕ)} {b : RunningBox} (is : b .product ≡ p) (at : Stands b (Carries r p names)) {name : List ℕ} where
   -- an end is the end of a way that carries one name more
-  one-more : {q : ℕ} → Ends r b name q → Carries r p (name ∷ names) q
+  pub one-more : {q : ℕ} → Ends r b name q → Carries r p (name ∷ names) q
   one-more e = rw (← e .named, ← e .to) (more (e .listed) (at .only (e .move .from) (e .from)) (rw is at (e .makes)))
 
   -- and the other way round

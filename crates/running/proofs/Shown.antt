@@ -10,6 +10,7 @@ use lib.Dec.{eqb}
 use lib.ListN.{length, take, length-append}
 use Rattle.products.specs.Sets.{bit}
 use Rattle.text.specs.Text.{Wrote, decimal, texts}
+use Rattle.text.proofs.Determined.{wrote-determined}
 use Rattle.text.proofs.Laws.{wrote-then, wrote-text, wrote-end, decimal-places}
 use Rattle.refusals.specs.declared.Refusal.{Refusal}
 use Rattle.refusals.specs.Refusal.{refusalText}
@@ -66,3 +67,7 @@ place-told x e w = record { laid = rw e w; whole = rw e (whole-in (place-short (
 
 pub refusal-told : {l l′ : List ℕ} {n : ℕ} (x : Called) (q : Refusal) → x .answer ≡ Refused q → Wrote l 0 (refusalText q) l′ n → q .number < 2 ^ 8 → q .line < 2 ^ 64 → Told l l′ n x
 refusal-told x q e w h g = record { laid = rw e w; whole = rw e (whole-in (omega (arith, refusal-short q h g)) w) }
+
+-- what `put_called` promises determines room and length
+pub told-determined : {room x y : List ℕ} {m n : ℕ} {c : Called} → Told room x m c → Told room y n c → (x ≡ y) × (m ≡ n)
+told-determined h k = wrote-determined (h .laid) (k .laid)

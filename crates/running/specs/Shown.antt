@@ -35,7 +35,7 @@ toldText (Refused q) b = refusalText q
 abbrev pub calledText : Called → List ℕ
 calledText x = toldText (x .answer) (x .after)
 
--- what `put_called` leaves of a room: the line at its start, whole where the room has 198 bytes, the most that a line has; n is how many it has
+-- what `put_called` leaves of a room: the line at its start, whole where the room has 198 bytes, which no line exceeds; n is how many it has
 pub record Told (room room′ : List ℕ) (n : ℕ) (x : Called) : Type 0 where
   pub laid : Wrote room 0 (calledText x) room′ n
   pub whole : 198 ≤ length room → take n room′ ≡ calledText x
