@@ -149,7 +149,7 @@ fn serve_small(job: Job, text: &[u8], room: &mut [u8], second: &mut [u8]) -> Ans
     requires { ⌜ length (now text) ≤ 169 ⌝ }
     ensures { λ a. ⌜ Served job (now (text .entry)) (now (room .entry)) (now (room .exit)) (now (second .entry)) (now (second .exit)) a ⌝ }
 {
-    let mut moves = [[0usize; 6]; SMALL_MOVES];
+    let mut moves = [[0usize; 5]; SMALL_MOVES];
     let mut move_guards = [[0u64; 16]; SMALL_MOVES];
     let mut stops = [[0usize; 2]; SMALL_STOPS];
     let mut stop_guards = [[0u64; 16]; SMALL_STOPS];
@@ -170,7 +170,7 @@ fn serve_middle(job: Job, text: &[u8], room: &mut [u8], second: &mut [u8]) -> An
     requires { ⌜ length (now text) ≤ 1170 ⌝ }
     ensures { λ a. ⌜ Served job (now (text .entry)) (now (room .entry)) (now (room .exit)) (now (second .entry)) (now (second .exit)) a ⌝ }
 {
-    let mut moves = [[0usize; 6]; MIDDLE_MOVES];
+    let mut moves = [[0usize; 5]; MIDDLE_MOVES];
     let mut move_guards = [[0u64; 16]; MIDDLE_MOVES];
     let mut stops = [[0usize; 2]; MOST_STOPS];
     let mut stop_guards = [[0u64; 16]; MOST_STOPS];
@@ -190,7 +190,7 @@ fn serve_middle(job: Job, text: &[u8], room: &mut [u8], second: &mut [u8]) -> An
 fn serve_large(job: Job, text: &[u8], room: &mut [u8], second: &mut [u8]) -> Answers
     ensures { λ a. ⌜ Served job (now (text .entry)) (now (room .entry)) (now (room .exit)) (now (second .entry)) (now (second .exit)) a ⌝ }
 {
-    let mut moves = [[0usize; 6]; MOST_MOVES];
+    let mut moves = [[0usize; 5]; MOST_MOVES];
     let mut move_guards = [[0u64; 16]; MOST_MOVES];
     let mut stops = [[0usize; 2]; MOST_STOPS];
     let mut stop_guards = [[0u64; 16]; MOST_STOPS];
@@ -212,7 +212,7 @@ fn serve_by(
     text: &[u8],
     room: &mut [u8],
     second: &mut [u8],
-    moves: &mut [[usize; 6]],
+    moves: &mut [[usize; 5]],
     move_guards: &mut [[u64; 16]],
     stops: &mut [[usize; 2]],
     stop_guards: &mut [[u64; 16]],
@@ -259,7 +259,7 @@ fn spread_out(
     c: Counts,
     names: &[[usize; 2]; 10],
     valid: [u64; 16],
-    moves: &[[usize; 6]],
+    moves: &[[usize; 5]],
     move_guards: &[[u64; 16]],
     stops: &[[usize; 2]],
     stop_guards: &[[u64; 16]],
@@ -305,7 +305,7 @@ fn spread_low(
     c: Counts,
     names: &[[usize; 2]; 10],
     valid: [u64; 16],
-    moves: &[[usize; 6]],
+    moves: &[[usize; 5]],
     move_guards: &[[u64; 16]],
     stops: &[[usize; 2]],
     stop_guards: &[[u64; 16]],
@@ -344,7 +344,7 @@ fn spread_high(
     c: Counts,
     names: &[[usize; 2]; 10],
     valid: [u64; 16],
-    moves: &[[usize; 6]],
+    moves: &[[usize; 5]],
     move_guards: &[[u64; 16]],
     stops: &[[usize; 2]],
     stop_guards: &[[u64; 16]],
@@ -385,7 +385,7 @@ fn lay(
     valid: [u64; 16],
     sets: &[[u64; 16]],
     out: &[[u64; 16]],
-    moves: &[[usize; 6]],
+    moves: &[[usize; 5]],
     guards: &[[u64; 16]],
     stops: &[[usize; 2]],
     stop_guards: &[[u64; 16]],
@@ -421,7 +421,7 @@ fn lay_report(
     depth: usize,
     sets: &[[u64; 16]],
     out: &[[u64; 16]],
-    moves: &[[usize; 6]],
+    moves: &[[usize; 5]],
     guards: &[[u64; 16]],
     stops: &[[usize; 2]],
     stop_guards: &[[u64; 16]],
@@ -445,7 +445,7 @@ fn lay_clean(
     valid: [u64; 16],
     sets: &[[u64; 16]],
     out: &[[u64; 16]],
-    moves: &[[usize; 6]],
+    moves: &[[usize; 5]],
     guards: &[[u64; 16]],
 ) -> Answers
     requires { ⌜ (min 64 (length (now sets)) ≤ length (now out)) × Outs (now moves) (now guards) (now sets) (min (min (min (c .moves) 256) (length (now moves))) (length (now guards))) (now out) ⌝ }
@@ -484,7 +484,7 @@ fn lay_both(
     valid: [u64; 16],
     sets: &[[u64; 16]],
     out: &[[u64; 16]],
-    moves: &[[usize; 6]],
+    moves: &[[usize; 5]],
     guards: &[[u64; 16]],
     stops: &[[usize; 2]],
     stop_guards: &[[u64; 16]],
@@ -526,7 +526,7 @@ fn report_fits(
     depth: usize,
     sets: &[[u64; 16]],
     out: &[[u64; 16]],
-    moves: &[[usize; 6]],
+    moves: &[[usize; 5]],
     guards: &[[u64; 16]],
     stops: &[[usize; 2]],
     stop_guards: &[[u64; 16]],
@@ -560,7 +560,7 @@ fn longer(
     depth: usize,
     sets: &[[u64; 16]],
     out: &[[u64; 16]],
-    moves: &[[usize; 6]],
+    moves: &[[usize; 5]],
     guards: &[[u64; 16]],
     stops: &[[usize; 2]],
     stop_guards: &[[u64; 16]],
@@ -592,7 +592,7 @@ fn clean_length(
     c: Counts,
     names: &[[usize; 2]; 10],
     valid: [u64; 16],
-    moves: &[[usize; 6]],
+    moves: &[[usize; 5]],
     guards: &[[u64; 16]],
     sets: &[[u64; 16]],
     out: &[[u64; 16]],

@@ -1,20 +1,22 @@
 -- What can be decided of an accepted sheet: whether a valid product reaches a state, makes a move, misses it or stays, and what the depth is. A way of k
 -- moves is decided move by move, and a state that is reached has a way of at most 63 moves. Assumes nothing.
-use mathlib.Core.Bool.{true, Bool-discrete, false≢true}
+use mathlib.Core.Bool.{Bool, true, false, Bool-discrete}
 use mathlib.Core.List.{List, [], _∷_, List·Memᴰ, List·Memᴰ·head, List·Memᴰ·tail, List·Memᴰ·not-nil, List·Memᴰ·cases-cons}
 use mathlib.Core.Logic.{_⊎_, inl, inr, ⊎-elim, Dec·and, Dec·not, Dec·of-iff}
 use mathlib.Core.Path.{_≡_, refl, sym, subst}
-use Prim.Native.Nat.{ℕ, zero, suc, _≤_, _<_}
+use Prim.Native.Nat.{ℕ, zero, suc, _^_, _≤_, _<_}
 use native.Mathlib.Decide.{ℕ-discrete, decLt}
 use native.Mathlib.Nat.{eq-or-lt-of-le}
 use native.Mathlib.Omega.{arith}
-use Rattle.guards.specs.Guard.{Guard, never, always, feature, neg, chain, choice, holds}
-use Rattle.sheet.specs.Sheet.{Move, Stop, Sheet, isValid}
+use borrow.Author.Tests.{ltb-true}
+use lib.ListN.{length}
+use Rattle.guards.specs.Guard.{Guard, holds}
+use Rattle.sheet.specs.Sheet.{Move, Stop, Sheet, isProduct, isValid}
 use Rattle.sheet.specs.Accepted.{Accepted}
 use Rattle.family.specs.Ways.{Valid, Reached, Way, none, more, Fewest, Depth}
 use Rattle.family.proofs.Steps.{reached-way, way-reached}
 use Rattle.family.proofs.Meaning.{reached-state, product-small, fewest-small}
-use Rattle.verdicts.specs.Verdicts.{Makes, MadeIn, MissedIn, LeadsOut, Stuck, ReachedIn, Declares, UntrueIn, Named}
+use Rattle.verdicts.specs.Verdicts.{Makes, MadeIn, MissedIn, HoldsInEvery, FailsInSome, LeadsOut, Stuck, ReachedIn, Declares, UntrueIn, Named}
 use Rattle.ordering.proofs.Laws.{compared}
 use Rattle.normal.specs.Clean.{Stays, Leaves}
 use Rattle.normal.proofs.Faultless.{line-goes}
@@ -25,14 +27,6 @@ dec-or : {A B : Type 0} → Dec A → Dec B → Dec (A ⊎ B)
 dec-or (yes a) d = yes (inl a)
 dec-or (no n) (yes b) = yes (inr b)
 dec-or (no n) (no o) = no (λ z. ⊎-elim n o z)
-
-pub dec-always : (g : Guard) → Dec (g ≡ always)
-dec-always never = no (λ e. false≢true cc)
-dec-always always = yes refl
-dec-always (feature i) = no (λ e. false≢true cc)
-dec-always (neg g) = no (λ e. false≢true cc)
-dec-always (chain o ps g) = no (λ e. false≢true cc)
-dec-always (choice c g h) = no (λ e. false≢true cc)
 
 -- what is true of the first and of all others of a list
 pub of-more : {A : Type 0} {Q : A → Type 0} {x : A} {xs : List A} → Q x → ((y : A) → List·Memᴰ y xs → Q y) → (y : A) → List·Memᴰ y (x ∷ xs) → Q y
@@ -99,7 +93,21 @@ dec-below {P} n dec small = go (least-below dec n)
     go (inl (k, f)) = yes (k, f .is)
     go (inr f) = no (λ z. f (z .0) (small (z .0) (z .1)) (z .1))
 
--- ---- ways
+-- ---- guards and ways
+
+-- a guard fails in some product of the sheet's features, or holds in every one
+module _ (r : Sheet) (g : Guard) where
+  pub dec-fails : Dec (FailsInSome r g)
+  dec-fails =
+      Dec·of-iff (λ z. (z .0, z .1 .0, z .1 .1), λ z. (z .0, (z .1, z .2)))
+      (dec-below (2 ^ length (r .features)) (λ p. Dec·and (Bool-discrete (isProduct r p) true) (Bool-discrete (holds g p) false)) (λ p z. ltb-true p (2 ^ length (r .features)) (z .0)))
+
+  pub holds-unless : (FailsInSome r g → ⊥) → HoldsInEvery r g
+  holds-unless n p e = go (holds g p) refl
+    where
+      go : (b : Bool) → holds g p ≡ b → b ≡ true
+      go true h = refl
+      go false h = absurd (n (p, e, h))
 
 dec-held : (g : Guard) (p : ℕ) → Dec (holds g p ≡ true)
 dec-held g p = Bool-discrete (holds g p) true

@@ -20,7 +20,7 @@ use Rattle.family.specs.Ways.{Valid, Reached, begin, by, Way, none, more, Fewes
 use Rattle.family.proofs.Steps.{way-reached}
 use Rattle.verdicts.specs.declared.Verdict.the-variants.{Dead, False, Must, May}
 use Rattle.verdicts.specs.declared.StateVerdict.the-variants.{Unreached, Hidden}
-use Rattle.verdicts.specs.Verdicts.{Makes, MadeIn, MissedIn, JudgedAs, LeadsOut, Stuck, ReachedIn, StateAs, Counted, nobody, counts, passes}
+use Rattle.verdicts.specs.Verdicts.{Makes, MadeIn, MissedIn, HoldsInEvery, FailsInSome, JudgedAs, LeadsOut, Stuck, ReachedIn, StateAs, Counted, nobody, counts, passes}
 use Rattle.splitting.specs.Splitting.{all, guardOf, Writes}
 use Rattle.normal.specs.Behaviour.{Goes}
 use Rattle.normal.specs.Clean.{count, Stays, Leaves}
@@ -144,24 +144,26 @@ calm-unmade : Makes dish 2 calm → ⊥
 unfolding holds
 calm-unmade m = apart (m .held)
 
-chain-otherwise : gaugeOrBoat ≡ always → ⊥
-chain-otherwise e = let z : _≡_ {A = ℕ} 0 1 = cc in omega arith
+-- product 0 has neither feature; it is not valid
+chain-fails : FailsInSome dish gaugeOrBoat
+unfolding holds
+chain-fails = (0, refl, refl)
 
-feature-otherwise : feature 0 ≡ always → ⊥
-feature-otherwise e = let z : _≡_ {A = ℕ} 0 1 = cc in omega arith
+one-holds : HoldsInEvery dish always
+unfolding holds
+one-holds p e = refl
 
 pub raise-judged : JudgedAs _≤_ dish raise (False 1)
 raise-judged = (
-  record { alive = (1, raise-made valid-one); otherwise = chain-otherwise; every = λ p v w. raise-made v .makes },
+  record { alive = (1, raise-made valid-one); fails = chain-fails; every = λ p v w. raise-made v .makes },
   record { is = raise-made valid-one; first = λ q h. valid-positive q (h .valid) },
 )
 
 pub stow-judged : JudgedAs _≤_ dish stow (Must 1)
-stow-judged = (refl, record { is = stow-made valid-one; first = λ q h. valid-positive q (h .valid) })
+stow-judged = (one-holds, record { is = stow-made valid-one; first = λ q h. valid-positive q (h .valid) })
 
 pub calm-judged : JudgedAs _≤_ dish calm (May 1 2)
 calm-judged = (
-  feature-otherwise,
   record { is = calm-in-one; first = λ q h. valid-positive q (h .valid) },
   record { is = record { valid = valid-two; reached = reached-two valid-two; unmade = calm-unmade }; first = λ q h. later q (h .valid) h },
 )

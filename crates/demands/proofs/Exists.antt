@@ -23,7 +23,7 @@ use Rattle.verdicts.specs.declared.StateVerdict.{StateVerdict}
 use Rattle.verdicts.specs.declared.StateVerdict.the-variants.{Unreached, End, Hidden, Live}
 use Rattle.verdicts.specs.declared.StopVerdict.{StopVerdict}
 use Rattle.verdicts.specs.declared.StopVerdict.the-variants.{Untrue, Idle, True}
-use Rattle.verdicts.specs.Verdicts.{MadeIn, MissedIn, JudgedAs, LeadsOut, Stuck, ReachedIn, StateAs, Counted, nobody, counts, passes, Declares, UntrueIn, StopAs, Named}
+use Rattle.verdicts.specs.Verdicts.{MadeIn, MissedIn, FailsInSome, JudgedAs, LeadsOut, Stuck, ReachedIn, StateAs, Counted, nobody, counts, passes, Declares, UntrueIn, StopAs, Named}
 use Rattle.reporting.specs.Report.{MoveRows, StateRows, StopRows, IsReport, moveRow, stateRow, stopRow, depthRow}
 use Rattle.splitting.specs.Splitting.{guardOf, Writes}
 use Rattle.splitting.proofs.Laws.{writes-of}
@@ -32,7 +32,7 @@ use Rattle.ordering.proofs.Laws.{less-trans, less-total}
 use Rattle.normal.specs.Clean.{count, keyOf, Kept, GuardFor, Stays, Leaves, Rising, MoveBefore, StopBefore, IsClean}
 use Rattle.cleaning.proofs.Made.{makes-goes, made-goes, missed-goes}
 use Rattle.demands.specs.Demands.{ReportExists, CleanExists}
-use Rattle.demands.proofs.Decided.{of-more, below-more, Search, search-below, le-either, le-through, dec-always, dec-product, dec-valid, dec-reached-in, depth-of, dec-made, dec-missed, made-by-all, dec-named, dec-leads-out, dec-stays, dec-stuck, dec-leaves, dec-declares, dec-untrue}
+use Rattle.demands.proofs.Decided.{of-more, below-more, Search, search-below, le-either, le-through, dec-fails, holds-unless, dec-product, dec-valid, dec-reached-in, depth-of, dec-made, dec-missed, made-by-all, dec-named, dec-leads-out, dec-stays, dec-stuck, dec-leaves, dec-declares, dec-untrue}
 
 -- ---- the report, whatever the order by which the smallest product is found
 
@@ -55,13 +55,14 @@ module _ {R : ℕ → ℕ → Type 0} (total : (a b : ℕ) → R a b ⊎ R b a) 
       go (inr f) = (Nothing, λ q h. f q (product-small ok (valid q h)) h)
 
   pub move-verdict : (m : Move) → (v : Verdict) × JudgedAs R r m v
-  move-verdict m = go (first (dec-made ok m) (λ p i. i .valid)) (first (dec-missed ok m) (λ p i. i .valid)) (dec-always (m .guard))
+  move-verdict m = go (first (dec-made ok m) (λ p i. i .valid)) (first (dec-missed ok m) (λ p i. i .valid)) (dec-fails r (m .guard))
     where
-      go : (f : Found) × Finds R (MadeIn r m) f → (f : Found) × Finds R (MissedIn r m) f → Dec (m .guard ≡ always) → (v : Verdict) × JudgedAs R r m v
+      go : (f : Found) × Finds R (MadeIn r m) f → (f : Found) × Finds R (MissedIn r m) f → Dec (FailsInSome r (m .guard))
+          → (v : Verdict) × JudgedAs R r m v
       go (Nothing, n) (f, k) a = (Dead f, (n, k))
-      go (At p, l) (f, k) (yes e) = (Must p, (e, l))
-      go (At p, l) (Nothing, n) (no o) = (False p, (record { alive = (p, l .is); otherwise = o; every = made-by-all ok n }, l))
-      go (At p, l) (At q, k) (no o) = (May p q, (o, l, k))
+      go (At p, l) (f, k) (no o) = (Must p, (holds-unless r (m .guard) o, l))
+      go (At p, l) (Nothing, n) (yes z) = (False p, (record { alive = (p, l .is); fails = z; every = made-by-all ok n }, l))
+      go (At p, l) (At q, k) (yes z) = (May p q, (l, k))
 
   pub state-verdict : (q : ℕ) → (v : StateVerdict) × StateAs R r q v
   state-verdict q = go (first (dec-reached-in ok q) (λ p i. i .valid)) (dec-leads-out ok q) (first (dec-stuck ok q) (λ p i. i .valid))

@@ -1,9 +1,10 @@
--- What `has`, `is_empty`, `meets` and `exceeds` promise determines their answers. Assumes nothing.
+-- What `has`, `is_empty`, `is_full`, `meets` and `exceeds` promise determines their answers. Assumes nothing.
 use mathlib.Core.Path.{_≡_}
+use native.Mathlib.Omega.{arith}
 use mathlib.Core.Bool.{Bool, true, false}
 use mathlib.Core.List.{List}
 use Prim.Native.Nat.{ℕ}
-use Rattle.products.specs.Sets.{In}
+use Rattle.products.specs.Sets.{In, Full, Lacks}
 use Rattle.products.proofs.Determined.{told-determined}
 
 -- of `has`
@@ -14,6 +15,10 @@ has-determined s p = told-determined (λ i none. none i)
 pub empty-determined : (s : List ℕ) (r r′ : Bool) → (r ≡ true → (q : ℕ) → In s q → ⊥) × (r ≡ false → (q : ℕ) × In s q)
     → (r′ ≡ true → (q : ℕ) → In s q → ⊥) × (r′ ≡ false → (q : ℕ) × In s q) → r ≡ r′
 empty-determined s = told-determined (λ none some. none (some .0) (some .1))
+
+-- of `is_full`
+pub full-determined : (s : List ℕ) (r r′ : Bool) → (r ≡ true → Full s) × (r ≡ false → Lacks s) → (r′ ≡ true → Full s) × (r′ ≡ false → Lacks s) → r ≡ r′
+full-determined s = told-determined (λ full (p, l, e). omega (arith, full p l))
 
 -- of `meets` and `exceeds`, and of any other answer whether some product has a property P
 pub some-determined : (P : ℕ → Type 0) (r r′ : Bool) → (r ≡ true → (q : ℕ) × P q) × (r ≡ false → (q : ℕ) → P q → ⊥)

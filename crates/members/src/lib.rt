@@ -1,9 +1,9 @@
-// What sets of products have: whether a set has a product, or any, and how many; of two sets the least that
+// What sets of products have: whether a set has a product, any, or all, and how many; of two sets the least that
 // they share, or that the first alone has, and whether there is one; whether they are the same.
 ghost use mathlib.Core.Path.{_≡_};
 ghost use mathlib.Core.Bool.{true, false, not};
 ghost use Prim.Native.Nat.{ℕ, _+_, _*_, _<_, _≤_};
-ghost use Rattle.products.specs.Sets.{bit, oneIf, In, Picked, InBoth, InOnly, Finds, countTo};
+ghost use Rattle.products.specs.Sets.{bit, oneIf, In, Picked, InBoth, InOnly, Finds, Full, Lacks, countTo};
 use products::Found;
 
 // Whether s has the product p.
@@ -105,6 +105,14 @@ fn any(a: &[u64; 16], b: &[u64; 16], out: bool) -> bool
         w += 1;
     }
     false
+}
+
+// Whether s has all 1,024 products. The first word that lacks one tells.
+pub fn is_full(s: &[u64; 16]) -> bool
+    ensures { λ r. ⌜ (r ≡ true → Full (now (s .entry))) × (r ≡ false → Lacks (now (s .entry))) ⌝ }
+{
+    let full = [0xffff_ffff_ffff_ffffu64; 16];
+    !any(&full, s, true)
 }
 
 // The bits of a that b has, or has not if `out`.

@@ -1,9 +1,11 @@
 -- A clean form has none of the faults that a report shows. It is a clean form of itself; in it a triple stands on one line, so what is kept is made
 -- by that line, a guard that is not `1` is missed by a product, and each product that stays at a state has a stop line there. Assumes nothing.
-use mathlib.Core.Path.{_≡_, refl, sym, subst}
+use mathlib.Core.Bool.{false, false≢true}
+use mathlib.Core.Path.{_≡_, refl, sym, ap, subst, _∙_}
 use mathlib.Core.List.{List·Memᴰ}
 use mathlib.Core.Logic.{inl, inr}
 use Prim.Native.Nat.{ℕ}
+use Rattle.guards.specs.Guard.{Guard, always, holds}
 use Rattle.sheet.specs.Sheet.{Move, Stop, Sheet}
 use Rattle.verdicts.specs.Verdicts.{Makes, DeadMove, FalseOptional, LeadsOut, Stuck, UntrueIn}
 use Rattle.normal.specs.Behaviour.{Goes}
@@ -26,6 +28,11 @@ line-goes {m = m} l x = record { move = m; there = l .there; from = l .source; a
 
 -- ---- a sheet that is its own clean form
 
+-- the guard `1` fails in no product
+never-fails : {g : Guard} (p : ℕ) → g ≡ always → holds g p ≡ false → ⊥
+unfolding holds
+never-fails p e f = false≢true (sym f ∙ ap (λ (g : Guard). holds g p) e)
+
 module _ {c : Sheet} (x : Clean c c) where
   not-dead : (m : Move) → List·Memᴰ m (c .moves) → DeadMove c m → ⊥
   not-dead m i d =
@@ -36,7 +43,7 @@ module _ {c : Sheet} (x : Clean c c) where
   not-false m i d = go (x .moves-only m i .1)
     where
       go : GuardFor c (m .from) (m .action) (m .to) (m .guard) → ⊥
-      go (inl z) = d .otherwise (z .guard)
+      go (inl z) = never-fails (d .fails .0) (z .guard) (d .fails .2)
       go (inr z) = z .unmade (line-goes (record { there = i; source = refl }) (d .every (z .product) (z .valid) (z .reached)))
 
   line-leaves : {q : ℕ} {m : Move} → LeadsOut c q m → Leaves c q

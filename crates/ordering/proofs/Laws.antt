@@ -288,5 +288,5 @@ unfolding keyAt
 key-at s t i h = let e : i % 256 ≡ i = omega arith in rw e
 
 -- a row that is not there has the key of a row of zeros
-pub key-none : (s : List ℕ) (t : List (List ℕ)) (i : ℕ) → length t ≤ i → rowKey s (replicate 6 0) ≡ rowKey s (getD t i [])
+pub key-none : (s : List ℕ) (t : List (List ℕ)) (i : ℕ) → length t ≤ i → rowKey s (replicate 5 0) ≡ rowKey s (getD t i [])
 key-none s t i h = rw (List·getD-eq-default t [] h)

@@ -16,7 +16,7 @@ use tables::TO;
 pub fn order_moves(
     text: &[u8],
     count: usize,
-    moves: &[[usize; 6]],
+    moves: &[[usize; 5]],
     guards: &[[u64; 16]],
     sets: &[[u64; 16]],
     order: &mut [u8; 256],
@@ -57,7 +57,7 @@ struct Ordered {
 fn order_row(
     text: &[u8],
     i: usize,
-    moves: &[[usize; 6]],
+    moves: &[[usize; 5]],
     guards: &[[u64; 16]],
     sets: &[[u64; 16]],
     order: &mut [u8; 256],
@@ -85,7 +85,7 @@ fn order_row(
 // Puts row x in its place among the first k of `order`, which are in order, and answers the place.
 fn insert(
     text: &[u8],
-    moves: &[[usize; 6]],
+    moves: &[[usize; 5]],
     order: &mut [u8; 256],
     k: usize,
     x: usize,
@@ -103,7 +103,7 @@ fn insert(
 // those that are left between those that stay and those that x comes before.
 fn place_of(
     text: &[u8],
-    moves: &[[usize; 6]],
+    moves: &[[usize; 5]],
     order: &[u8; 256],
     k: usize,
     x: usize,
@@ -151,11 +151,11 @@ pub fn number(x: u8) -> usize
 }
 
 // Row i, or a row of zeros where the table ends before it: both have the key of row i.
-fn row_at(moves: &[[usize; 6]], i: usize) -> [usize; 6]
+fn row_at(moves: &[[usize; 5]], i: usize) -> [usize; 5]
     ensures { λ r. ⌜ ((s : List ℕ) → rowKey s r ≡ rowKey s (getD (now (moves .entry)) i [])) ⌝ }
 {
     if moves.len() <= i {
-        return [0; 6];
+        return [0; 5];
     }
     moves[i]
 }
@@ -177,7 +177,7 @@ fn shift(order: &mut [u8; 256], place: usize, k: usize, x: usize)
 }
 
 // Whether row a comes before row b.
-fn before(text: &[u8], a: [usize; 6], b: [usize; 6]) -> bool
+fn before(text: &[u8], a: [usize; 5], b: [usize; 5]) -> bool
     ensures { λ r. ⌜ r ≡ lessBytes (rowKey (now (text .entry)) a) (rowKey (now (text .entry)) b) ⌝ }
 {
     let from = a[FROM];

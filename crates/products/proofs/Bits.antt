@@ -12,7 +12,7 @@ use borrow.Author.Tests.{lt-ltb, le-ltb, ne-eqb}
 use lib.Bits.{bitAnd, bitOr, bitXor, and-shr, or-shr, xor-shr, and-step, or-step, xor-add-and}
 use lib.Count.{ones, ones-step, ones-le}
 use lib.Dec.{T, eqb, ltb, eqb→eq, eqb·suc-suc}
-use lib.Pow.{pow-mono, shr-shr}
+use lib.Pow.{pow-mono, shr-shr, field, mod-mod-pow}
 use Rattle.products.specs.Sets.{bit, oneIf}
 
 -- ---- what the operations on words do to each bit
@@ -49,6 +49,14 @@ bit-suc x k =
     let e : 1 + k ≡ suc k = omega arith in
     let h : x / 2 ^ 1 / 2 ^ k ≡ x / 2 ^ suc k = rw e at (shr-shr x 1 k) in
     ap (λ (n : ℕ). n % 2) (sym h)
+
+-- what is cut off above does not matter
+pub cut-bit : (x k m : ℕ) → k < m → bit (x % 2 ^ m) k ≡ bit x k
+cut-bit x k m lk =
+    let e : m - 1 - k + 1 + k ≡ m = omega arith in
+    let a : x % 2 ^ (m - 1 - k + 1 + k) / 2 ^ k ≡ x / 2 ^ k % 2 ^ (m - 1 - k + 1) = field x (m - 1 - k + 1) k in
+    let b : x / 2 ^ k % 2 ^ (m - 1 - k + 1) % 2 ^ 1 ≡ x / 2 ^ k % 2 ^ 1 = mod-mod-pow (x / 2 ^ k) (m - 1 - k) 1 in
+    ap (λ (n : ℕ). n % 2) (rw e at a) ∙ b
 
 -- words are equal where their bits are
 pub eq-bits : (k x y : ℕ) → x < 2 ^ k → y < 2 ^ k → ((j : ℕ) → j < k → bit x j ≡ bit y j) → x ≡ y

@@ -48,6 +48,13 @@ abbrev pub Finds : (ℕ → ℕ → Type 0) → (ℕ → Type 0) → Found → T
 Finds R P (At p) = Least R P p
 Finds R P Nothing = (q : ℕ) → P q → ⊥
 
+-- s has all 1,024 products of ten features; s lacks one of them
+abbrev pub Full : List ℕ → Type 0
+Full s = (p : ℕ) → p < 1024 → has s p ≡ 1
+
+abbrev pub Lacks : List ℕ → Type 0
+Lacks s = (p : ℕ) × (p < 1024) × (has s p ≡ 0)
+
 -- how many products below n the set s has
 unfoldable pub countTo : List ℕ → ℕ → ℕ
 countTo s zero = 0

@@ -18,7 +18,7 @@ fn main() {
 fn answer(text: &[u8], room: &mut [u8]) -> usize {
     let mut names = [[0usize; 2]; 10];
     let mut valid = [0u64; 16];
-    let mut moves = [[0usize; 6]; 256];
+    let mut moves = [[0usize; 5]; 256];
     let mut move_guards = [[0u64; 16]; 256];
     let mut stops = [[0usize; 2]; 64];
     let mut stop_guards = [[0u64; 16]; 64];

@@ -55,7 +55,7 @@ module _ (R : ℕ → ℕ → Type 0) {r : Sheet} (ok : Accepted r) where
   move-row m (Dead Nothing) l j = simp length-append (omega (arith, line-short l))
   move-row m (False p) l j = simp length-append (omega (arith, line-short l, product-short ok (j .1 .is .valid)))
   move-row m (Must p) l j = simp length-append (omega (arith, line-short l, product-short ok (j .1 .is .valid)))
-  move-row m (May p q) l j = simp length-append (omega (arith, line-short l, product-short ok (j .1 .is .valid), product-short ok (j .2 .is .valid)))
+  move-row m (May p q) l j = simp length-append (omega (arith, line-short l, product-short ok (j .0 .is .valid), product-short ok (j .1 .is .valid)))
 
   state-row : (q k : ℕ) (v : StateVerdict) → length (decimal q) ≤ 2 → length (decimal k) ≤ 4 → StateAs R r q v → length (stateRow q v k) ≤ 26
   unfolding stateRow stateWord foundText hiddenOf

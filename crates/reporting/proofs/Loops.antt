@@ -106,8 +106,8 @@ module _ {c : Counts} {m g t h sets : List (List ℕ)} {r : Sheet} (w : Ready c 
 
 -- ---- a state that has no row is reached by nobody
 
-pub past-move : (sets : List (List ℕ)) {q : ℕ} (guard : List ℕ) (plain : ℕ) → length sets ≤ q → MoveSets (getD sets q []) guard plain (Dead Nothing)
-past-move sets guard plain l = rw (List·getD-eq-default sets [] l) (none-move guard plain)
+pub past-move : (sets : List (List ℕ)) {q : ℕ} (guard : List ℕ) → length sets ≤ q → MoveSets (getD sets q []) guard (Dead Nothing)
+past-move sets guard l = rw (List·getD-eq-default sets [] l) (none-move guard)
 
 pub past-stop : (sets : List (List ℕ)) {q : ℕ} (guard out : List ℕ) → length sets ≤ q → StopSets (getD sets q []) guard out Idle
 past-stop sets guard out l = rw (List·getD-eq-default sets [] l) (none-stop guard out)
@@ -159,7 +159,7 @@ module _ {n : ℕ} {m g sets : List (List ℕ)} {r : Sheet} (w : MovesReady n m 
   every-move {i} h q = let z : n - i ≡ 0 = omega arith in rw z at q
 
   one-move : {i line : ℕ} (v : Verdict) (vs : List ℕ) → i < n → line ≡ getD (getD m i []) 0 0
-      → MoveSets (getD sets (getD (getD m i []) 1 0 % 64) []) (getD g i []) (getD (getD m i []) 5 0) v
+      → MoveSets (getD sets (getD (getD m i []) 1 0 % 64) []) (getD g i []) v
       → MovesUpto n i r vs → MovesUpto n (i + 1) r (vs ++ moveRow line v)
   unfolding MovesUpto
   one-move {i} {line} v vs h e s q =
@@ -171,7 +171,7 @@ module _ {n : ℕ} {m g sets : List (List ℕ)} {r : Sheet} (w : MovesReady n m 
       let from : getD (getD m i []) 1 0 ≡ x .0 .from = ap (λ (row : List ℕ). getD row 1 0) is in
       let place : getD (getD m i []) 1 0 % 64 ≡ x .0 .from = omega arith in
       let sets-there = rw place at s in
-      let judged = move-judged (w .ready .accepted) (w .ready .reaches) (x .0) (x .4) (getD g i []) (x .3) (ap (λ (row : List ℕ). getD row 5 0) is) v sets-there in
+      let judged = move-judged (w .ready .accepted) (w .ready .reaches) (x .0) (x .4) (getD g i []) (x .3) v sets-there in
       let line-is : line ≡ x .0 .line = e ∙ ap (λ (row : List ℕ). getD row 0 0) is in
       add-move (r .moves) i v vs k line-is (x .1) judged q
 
@@ -183,7 +183,7 @@ module _ {n : ℕ} {m g sets : List (List ℕ)} {room : List ℕ} {at : ℕ} whe
 
   pub moves-more : {i line : ℕ} (v : Verdict) {room′ room″ : List ℕ} {next next″ : ℕ} → Laid (MovesReady n m g sets) (MovesUpto n) room at i room′ next
       → Wrote room′ next (moveRow line v) room″ next″ → i < n
-      → (line ≡ getD (getD m i []) 0 0) × MoveSets (getD sets (getD (getD m i []) 1 0 % 64) []) (getD g i []) (getD (getD m i []) 5 0) v
+      → (line ≡ getD (getD m i []) 0 0) × MoveSets (getD sets (getD (getD m i []) 1 0 % 64) []) (getD g i []) v
       → Laid (MovesReady n m g sets) (MovesUpto n) room at (i + 1) room″ next″
   moves-more {line = line} v l w h j = laid-more l (wrote-long w) (λ r p. (moveRow line v, λ vs q. one-move p v vs h (j .0) (j .1) q, w))
 

@@ -23,7 +23,6 @@ use row::put_move;
 use row::put_state;
 use row::put_stop;
 use sheet::Counts;
-use tables::ALWAYS;
 use tables::FROM;
 use tables::LINE;
 use tables::STATE;
@@ -40,7 +39,7 @@ pub fn put_report(
     depth: usize,
     sets: &[[u64; 16]],
     out: &[[u64; 16]],
-    moves: &[[usize; 6]],
+    moves: &[[usize; 5]],
     move_guards: &[[u64; 16]],
     stops: &[[usize; 2]],
     stop_guards: &[[u64; 16]],
@@ -60,7 +59,7 @@ fn put_moves(
     at: usize,
     c: Counts,
     sets: &[[u64; 16]],
-    moves: &[[usize; 6]],
+    moves: &[[usize; 5]],
     move_guards: &[[u64; 16]],
 ) -> usize
     ensures { λ n. ⌜ ((t h : List (List ℕ)) (r : Sheet) → Ready c (now (moves .entry)) (now («move_guards» .entry)) t h (now (sets .entry)) r → (vs : List ℕ) × MoveRows _≤_ r (r .moves) vs × Wrote (now (room .entry)) at vs (now (room .exit)) n) ⌝ }
@@ -80,9 +79,9 @@ fn put_moves(
 }
 
 // The move of row i, judged. A state that has no row in `sets` is reached by nobody.
-fn move_at(i: usize, sets: &[[u64; 16]], moves: &[[usize; 6]], move_guards: &[[u64; 16]]) -> Judged
+fn move_at(i: usize, sets: &[[u64; 16]], moves: &[[usize; 5]], move_guards: &[[u64; 16]]) -> Judged
     requires { ⌜ (i < length (now moves)) × (i < length (now «move_guards»)) ⌝ }
-    ensures { λ j. ⌜ (j .line ≡ getD (getD (now (moves .entry)) i List.[]) 0 0) × MoveSets (getD (now (sets .entry)) (getD (getD (now (moves .entry)) i List.[]) 1 0 % 64) List.[]) (getD (now («move_guards» .entry)) i List.[]) (getD (getD (now (moves .entry)) i List.[]) 5 0) (j .verdict) ⌝ }
+    ensures { λ j. ⌜ (j .line ≡ getD (getD (now (moves .entry)) i List.[]) 0 0) × MoveSets (getD (now (sets .entry)) (getD (getD (now (moves .entry)) i List.[]) 1 0 % 64) List.[]) (getD (now («move_guards» .entry)) i List.[]) (j .verdict) ⌝ }
 {
     let row = moves[i];
     let from = row[FROM] % 64;
@@ -92,7 +91,7 @@ fn move_at(i: usize, sets: &[[u64; 16]], moves: &[[usize; 6]], move_guards: &[[u
             verdict: Verdict::Dead(Found::Nothing),
         };
     }
-    verdicts::judge_move(row[LINE], &sets[from], &move_guards[i], row[ALWAYS])
+    verdicts::judge_move(row[LINE], &sets[from], &move_guards[i])
 }
 
 // The rows of all named states, rising: bit 0 of `named` is for the state q, and after the last named
@@ -103,7 +102,7 @@ fn put_states(
     c: Counts,
     sets: &[[u64; 16]],
     out: &[[u64; 16]],
-    moves: &[[usize; 6]],
+    moves: &[[usize; 5]],
     stops: &[[usize; 2]],
     stop_guards: &[[u64; 16]],
 ) -> usize

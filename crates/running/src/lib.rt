@@ -41,7 +41,7 @@ pub fn set_up(text: &[u8], product: usize) -> Called
     ensures { λ r. ⌜ SetsUp (now (text .entry)) product (r .answer) (r .after) ⌝ }
 {
     let mut valid = [0u64; 16];
-    let mut moves = [[0usize; 6]; MOST_MOVES];
+    let mut moves = [[0usize; 5]; MOST_MOVES];
     let mut guards = [[0u64; 16]; MOST_MOVES];
     let read = look(text, &mut valid, &mut moves, &mut guards);
     let SheetRead::Kept(c) = read else {
@@ -59,7 +59,7 @@ pub fn act(text: &[u8], b: RunningBox, action: &[u8]) -> Called
     ensures { λ r. ⌜ Acts (now (text .entry)) b (now (action .entry)) (r .answer) (r .after) ⌝ }
 {
     let mut valid = [0u64; 16];
-    let mut moves = [[0usize; 6]; MOST_MOVES];
+    let mut moves = [[0usize; 5]; MOST_MOVES];
     let mut guards = [[0u64; 16]; MOST_MOVES];
     let read = look(text, &mut valid, &mut moves, &mut guards);
     let SheetRead::Kept(c) = read else {
@@ -115,7 +115,7 @@ pub fn put_called(x: Called, room: &mut [u8]) -> usize
 fn look(
     text: &[u8],
     valid: &mut [u64; 16],
-    moves: &mut [[usize; 6]; 256],
+    moves: &mut [[usize; 5]; 256],
     guards: &mut [[u64; 16]; 256],
 ) -> SheetRead
     ensures { λ r. ⌜ Looks (now (text .entry)) (now (valid .exit)) (now (moves .exit)) (now (guards .exit)) r ⌝ }
@@ -180,7 +180,7 @@ fn pass_up(r: SheetRead, b: RunningBox) -> Called
 fn ends(
     text: &[u8],
     count: usize,
-    moves: &[[usize; 6]; 256],
+    moves: &[[usize; 5]; 256],
     guards: &[[u64; 16]; 256],
     b: RunningBox,
     action: &[u8],
@@ -201,7 +201,7 @@ fn ends(
 // The set with the state to which this move leads the box, if it leads it anywhere.
 fn with_row(
     text: &[u8],
-    row: [usize; 6],
+    row: [usize; 5],
     guard: &[u64; 16],
     b: RunningBox,
     action: &[u8],

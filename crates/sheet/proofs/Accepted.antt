@@ -256,12 +256,13 @@ refused-number s {q} e =
     let k = and-eq-true-iff (leb 1 (q .number)) (leb (q .number) 10) .0 (told-refused (sheet-told s) e) in
     (leb-true 1 (q .number) (k .0), leb-true (q .number) 10 (k .1))
 
--- a valid product of such a sheet is a product of its features, and so below 1,024
+-- a product of such a sheet's features is below 1,024
+pub product-below : {r : Sheet} {p : ℕ} → Accepted r → p < 2 ^ length (r .features) → p < 1024
+product-below {r} ok l = let most : 2 ^ length (r .features) ≤ 1024 = pow-mono (ok .few-features) in omega arith
+
+-- a valid product is one of them
 pub valid-small : {r : Sheet} {p : ℕ} → Accepted r → isValid r p ≡ true → (p < 2 ^ length (r .features)) × (holds (r .valid) p ≡ true) × (p < 1024)
-valid-small {r} {p} ok e =
-    let k = valid-both r p e in
-    let most : 2 ^ length (r .features) ≤ 1024 = pow-mono (ok .few-features) in
-    (k .0, k .1, omega arith)
+valid-small {r} {p} ok e = let k = valid-both r p e in (k .0, k .1, product-below ok (k .0))
 
 -- a move of the sheet is good, and so is a stop line
 pub good-move : {n : ℕ} {ms : List Move} {m : Move} → GoodMoves n ms → List·Memᴰ m ms → GoodMove n m

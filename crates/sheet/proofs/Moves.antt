@@ -8,7 +8,6 @@ use native.Mathlib.Omega.{arith}
 use borrow.Author.Tests.{not-true, not-false, le-leb, lt-leb}
 use lib.Dec.{leb}
 use lib.ListN.{length, getD, set}
-use Rattle.products.specs.Sets.{oneIf}
 use Rattle.refusals.specs.Refusal.{refusal}
 use Rattle.fields.specs.declared.Number.{Number}
 use Rattle.fields.specs.declared.Number.the-variants.{Of, Bad}
@@ -16,16 +15,14 @@ use Rattle.fields.specs.declared.TwoFields.{TwoFields}
 use Rattle.fields.specs.declared.TwoFields.the-variants.{Parted, NotTwo}
 use Rattle.fields.specs.declared.FourFields.{FourFields}
 use Rattle.fields.specs.declared.FourFields.the-variants.{Ends, NotFour}
-use Rattle.fields.specs.Bytes.{part, sameBytes, isAction, readState}
+use Rattle.fields.specs.Bytes.{part, isAction, readState}
 use Rattle.fields.specs.Cutting.{fields, two, four, asTwo, asFour, CutsTwo, CutsFour}
 use Rattle.fields.proofs.Parts.{part-length, part-part}
-use Rattle.fields.proofs.Same.{same-true, same-false}
 use Rattle.values.proofs.States.{state-small}
 use Rattle.guards.specs.declared.GuardRead.{GuardRead}
 use Rattle.guards.specs.declared.GuardRead.the-variants as guard
-use Rattle.guards.specs.Guard.{Guard, never, always, feature, neg, chain, choice}
-use Rattle.guards.specs.Reading.{took, namesOf, readWhole, Reads}
-use Rattle.guards.proofs.Laws.{plain-yes, plain-no}
+use Rattle.guards.specs.Guard.{Guard}
+use Rattle.guards.specs.Reading.{namesOf, readWhole, Reads}
 use Rattle.sheet.specs.declared.Progress.{Progress}
 use Rattle.sheet.specs.declared.LineRead.{LineRead}
 use Rattle.sheet.specs.declared.LineRead.the-variants.{Kept, Refused}
@@ -33,32 +30,11 @@ use Rattle.sheet.specs.declared.Triple.{Triple}
 use Rattle.sheet.specs.declared.Triple.the-variants as triple
 use Rattle.sheet.specs.Sheet.{Move, Stop, names}
 use Rattle.sheet.specs.Reading.{State, Answer, refuseIf, guarded, moved, stopped, keep, withMove, withStop, guardedMove, moveLine, stopLine}
-use Rattle.sheet.specs.Tables.{Tables, tables, Lies, Rows, plainOf, MoveRow, StopRow}
+use Rattle.sheet.specs.Tables.{Tables, tables, Lies, Rows, MoveRow, StopRow}
 use Rattle.sheet.specs.Inside.{Tells, Marked, TripledIn, Tripled, Stands, Says}
 use Rattle.sheet.proofs.Rows.{rows-length, table-put}
 use Rattle.sheet.proofs.Apart.{stops-fit}
 use Rattle.sheet.proofs.Lines.{refuses, keeps, guard-stands, guard-refused, guard-taken}
-
--- ---- a guard written `1`
-
-not-plain : (g : Guard) → (g ≡ always → ⊥) → 0 ≡ plainOf g
-not-plain never h = refl
-not-plain always h = absurd (h refl)
-not-plain (feature i) h = refl
-not-plain (neg g) h = refl
-not-plain (chain o ps g) h = refl
-not-plain (choice c g k) h = refl
-
-pub plain-is : (ns : List (List ℕ)) (x : List ℕ) {g : Guard} {rest : List ℕ} → readWhole ns x ≡ took g rest → oneIf (sameBytes x (49 ∷ [])) ≡ plainOf g
-plain-is ns x {g} {rest} q = go (sameBytes x (49 ∷ [])) refl
-  where
-    go : (t : Bool) → sameBytes x (49 ∷ []) ≡ t → oneIf t ≡ plainOf g
-    go true e =
-        let w : x ≡ 49 ∷ [] = same-true x (49 ∷ []) e in
-        let y : readWhole ns x ≡ took always [] = ap (readWhole ns) w ∙ plain-yes ns in
-        let z : g ≡ always = cc in
-        sym (ap plainOf z)
-    go false e = not-plain g (plain-no ns x q (same-false x (49 ∷ []) e))
 
 -- ---- a part of what lies in the sheet lies there too
 
@@ -104,14 +80,13 @@ module _ (n : ℕ) (st : State) (from : ℕ) (action : List ℕ) (place to : ℕ
         let w = guard-taken n (names (st .sheet .features)) x rd gs (guard-stands x rd gs so q) after a in
         refuses z (w .3 ∙ rw (sym (repeats .is) ∙ e))
 
-    pub move-kept : {u : ℕ} → y ≡ false → c .moves < 256 → c .moves < length m → c .moves < length g → Lies s action place → u ≡ oneIf (sameBytes x (49 ∷ []))
-        → Says s (tables nm v (set m (c .moves) (n ∷ from ∷ place ∷ (place + length action) ∷ to ∷ u ∷ [])) (set g (c .moves) gs) t d) seen′
+    pub move-kept : y ≡ false → c .moves < 256 → c .moves < length m → c .moves < length g → Lies s action place
+        → Says s (tables nm v (set m (c .moves) (n ∷ from ∷ place ∷ (place + length action) ∷ to ∷ [])) (set g (c .moves) gs) t d) seen′
         (Kept (record { section = 3; valid = c .valid; features = c .features; start = c .start; moves = c .moves + 1; stops = c .stops }))
         (guardedMove n st from action place to x)
     unfolding guardedMove after
-    move-kept {u} e few mine yours lies f =
+    move-kept e few mine yours lies =
         let w = guard-taken n (names (st .sheet .features)) x rd gs (guard-stands x rd gs so q) after a in
-        let k : u ≡ plainOf (w .0) = f ∙ plain-is (names (st .sheet .features)) x (w .1) in
         keeps (w .3 ∙ rw (sym (repeats .is) ∙ e))
         (record {
           section = refl;
@@ -124,7 +99,7 @@ module _ (n : ℕ) (st : State) (from : ℕ) (action : List ℕ) (place to : ℕ
           filled = record {
             ten = so .filled .ten;
             names = so .filled .names;
-            moves = table-put (so .filled .moves) mine (record { lies = lies; is = ap (λ (z : ℕ). n ∷ from ∷ place ∷ (place + length action) ∷ to ∷ z ∷ []) k });
+            moves = table-put (so .filled .moves) mine (record { lies = lies; is = refl });
             moveGuards = table-put (so .filled .moveGuards) yours (w .2);
             stops = so .filled .stops;
             stopGuards = so .filled .stopGuards;

@@ -250,12 +250,12 @@ ends-as e h = rw e at (h .is)
 pub blank-own : {T : Tables} (m g t h : ℕ) → T ≡ blankTables m g t h → Blank T
 blank-own m g t h e =
     subst Blank (sym e)
-    (rw (length-replicate m (replicate {A = ℕ} 6 0), length-replicate g (replicate {A = ℕ} 16 0), length-replicate t (replicate {A = ℕ} 2 0), length-replicate h (replicate {A = ℕ} 16 0)))
+    (rw (length-replicate m (replicate {A = ℕ} 5 0), length-replicate g (replicate {A = ℕ} 16 0), length-replicate t (replicate {A = ℕ} 2 0), length-replicate h (replicate {A = ℕ} 16 0)))
 
 pub blank-sized : {T : Tables} (m g t h : ℕ) → T ≡ blankTables m g t h → Sized m g t h T
 blank-sized m g t h e =
     record {
-      moves = ap (λ (T : Tables). length (T .moves)) e ∙ length-replicate m (replicate {A = ℕ} 6 0);
+      moves = ap (λ (T : Tables). length (T .moves)) e ∙ length-replicate m (replicate {A = ℕ} 5 0);
       moveGuards = ap (λ (T : Tables). length (T .moveGuards)) e ∙ length-replicate g (replicate {A = ℕ} 16 0);
       stops = ap (λ (T : Tables). length (T .stops)) e ∙ length-replicate t (replicate {A = ℕ} 2 0);
       stopGuards = ap (λ (T : Tables). length (T .stopGuards)) e ∙ length-replicate h (replicate {A = ℕ} 16 0);
@@ -268,7 +268,7 @@ own-sized T = record { moves = refl; moveGuards = refl; stops = refl; stopGuards
 same-lent : {n : List (List ℕ)} {v : List ℕ} {a b c d m g t h : List (List ℕ)} → m ≡ a → g ≡ b → t ≡ c → h ≡ d → tables n v m g t h ≡ tables n v a b c d
 same-lent {n} {v} p q r u i = record { names = n; valid = v; moves = p i; moveGuards = q i; stops = r i; stopGuards = u i }
 
-pub all-blank : {m g t h : List (List ℕ)} → m ≡ replicate (length m) (replicate 6 0) → g ≡ replicate (length g) (replicate 16 0)
+pub all-blank : {m g t h : List (List ℕ)} → m ≡ replicate (length m) (replicate 5 0) → g ≡ replicate (length g) (replicate 16 0)
     → t ≡ replicate (length t) (replicate 2 0) → h ≡ replicate (length h) (replicate 16 0) → Blank (tables (replicate 10 (replicate 2 0)) (replicate 16 0) m g t h)
 all-blank p q r u = same-lent p q r u
 

@@ -5,7 +5,7 @@ use Prim.Native.Nat.{ℕ, zero, suc, _+_, _≤_, _<_}
 use lib.ListN.{length, getD, replicate}
 use Rattle.products.specs.Sets.{has, oneIf}
 use Rattle.fields.specs.Bytes.{part}
-use Rattle.guards.specs.Guard.{Guard, never, always, feature, neg, chain, choice, Means}
+use Rattle.guards.specs.Guard.{Means}
 use Rattle.sheet.specs.declared.Counts.{Counts}
 use Rattle.sheet.specs.declared.SheetRead.{SheetRead}
 use Rattle.sheet.specs.declared.SheetRead.the-variants as whole
@@ -45,19 +45,10 @@ pub record FeatureRow (s row : List ℕ) (f : Feature) : Type 0 where
   pub lies : Lies s (f .name) (f .place)
   pub is : row ≡ f .place ∷ (f .place + length (f .name)) ∷ []
 
--- 1 if the guard is written `1`, and 0 if it is written otherwise
-abbrev pub plainOf : Guard → ℕ
-plainOf never = 0
-plainOf always = 1
-plainOf (feature i) = 0
-plainOf (neg g) = 0
-plainOf (chain o ps g) = 0
-plainOf (choice c g h) = 0
-
--- a move's row: line, from, the action's place, the place behind it, to, and 1 if its guard is written `1`
+-- a move's row: line, from, the action's place, the place behind it, to
 pub record MoveRow (s row : List ℕ) (m : Move) : Type 0 where
   pub lies : Lies s (m .action) (m .place)
-  pub is : row ≡ m .line ∷ m .from ∷ m .place ∷ (m .place + length (m .action)) ∷ m .to ∷ plainOf (m .guard) ∷ []
+  pub is : row ≡ m .line ∷ m .from ∷ m .place ∷ (m .place + length (m .action)) ∷ m .to ∷ []
 
 -- a stop's row: line and state
 abbrev pub StopRow : List ℕ → Stop → Type 0
@@ -67,7 +58,7 @@ StopRow row d = row ≡ d .line ∷ d .state ∷ []
 pub record Filled (s : List ℕ) (T : Tables) (f k d : ℕ) (fs : List Feature) (ms : List Move) (ds : List Stop) : Type 0 where
   pub ten : length (T .names) ≡ 10
   pub names : Table (FeatureRow s) (replicate 2 0) (T .names) f fs
-  pub moves : Table (MoveRow s) (replicate 6 0) (T .moves) k ms
+  pub moves : Table (MoveRow s) (replicate 5 0) (T .moves) k ms
   pub moveGuards : Table (λ set m. Means set (m .guard)) (replicate 16 0) (T .moveGuards) k ms
   pub stops : Table StopRow (replicate 2 0) (T .stops) d ds
   pub stopGuards : Table (λ set d. Means set (d .guard)) (replicate 16 0) (T .stopGuards) d ds
@@ -96,7 +87,7 @@ pub record Sized (m g t h : ℕ) (T : Tables) : Type 0 where
 -- no row of any table; all but the names have these lengths
 abbrev pub blankTables : ℕ → ℕ → ℕ → ℕ → Tables
 blankTables m g t h =
-    tables (replicate 10 (replicate 2 0)) (replicate 16 0) (replicate m (replicate 6 0)) (replicate g (replicate 16 0)) (replicate t (replicate 2 0))
+    tables (replicate 10 (replicate 2 0)) (replicate 16 0) (replicate m (replicate 5 0)) (replicate g (replicate 16 0)) (replicate t (replicate 2 0))
     (replicate h (replicate 16 0))
 
 -- of tables that are lent with m, g, t and h rows: refused as the definition refuses, and all of them blank; or kept, and they stand for the

@@ -80,7 +80,7 @@ pub fn read_sheet(
     text: &[u8],
     names: &mut [[usize; 2]; 10],
     valid: &mut [u64; 16],
-    moves: &mut [[usize; 6]; 256],
+    moves: &mut [[usize; 5]; 256],
     move_guards: &mut [[u64; 16]; 256],
     stops: &mut [[usize; 2]; 64],
     stop_guards: &mut [[u64; 16]; 64],
@@ -98,7 +98,7 @@ pub fn read_blank(
     text: &[u8],
     names: &mut [[usize; 2]; 10],
     valid: &mut [u64; 16],
-    moves: &mut [[usize; 6]],
+    moves: &mut [[usize; 5]],
     move_guards: &mut [[u64; 16]],
     stops: &mut [[usize; 2]],
     stop_guards: &mut [[u64; 16]],
@@ -128,7 +128,7 @@ pub fn read_blank(
 fn clear(
     names: &mut [[usize; 2]; 10],
     valid: &mut [u64; 16],
-    moves: &mut [[usize; 6]; 256],
+    moves: &mut [[usize; 5]; 256],
     move_guards: &mut [[u64; 16]; 256],
     stops: &mut [[usize; 2]; 64],
     stop_guards: &mut [[u64; 16]; 64],
@@ -137,7 +137,7 @@ fn clear(
 {
     *names = [[0usize; 2]; 10];
     *valid = [0u64; 16];
-    *moves = [[0usize; 6]; 256];
+    *moves = [[0usize; 5]; 256];
     *move_guards = [[0u64; 16]; 256];
     *stops = [[0usize; 2]; 64];
     *stop_guards = [[0u64; 16]; 64];
@@ -147,7 +147,7 @@ fn clear(
 fn clear_lent(
     names: &mut [[usize; 2]; 10],
     valid: &mut [u64; 16],
-    moves: &mut [[usize; 6]],
+    moves: &mut [[usize; 5]],
     move_guards: &mut [[u64; 16]],
     stops: &mut [[usize; 2]],
     stop_guards: &mut [[u64; 16]],
@@ -163,12 +163,12 @@ fn clear_lent(
 }
 
 // Makes every row blank; one function for each kind of row.
-fn clear_moves(rows: &mut [[usize; 6]])
-    ensures { λ r. ⌜ now (rows .exit) ≡ replicate (length (now (rows .exit))) (replicate 6 0) ⌝ }
+fn clear_moves(rows: &mut [[usize; 5]])
+    ensures { λ r. ⌜ now (rows .exit) ≡ replicate (length (now (rows .exit))) (replicate 5 0) ⌝ }
 {
     let mut i = 0;
     while i < rows.len() {
-        rows[i] = [0usize; 6];
+        rows[i] = [0usize; 5];
         i += 1;
     }
 }
@@ -205,7 +205,7 @@ fn read_lines(
     text: &[u8],
     names: &mut [[usize; 2]; 10],
     valid: &mut [u64; 16],
-    moves: &mut [[usize; 6]],
+    moves: &mut [[usize; 5]],
     move_guards: &mut [[u64; 16]],
     stops: &mut [[usize; 2]],
     stop_guards: &mut [[u64; 16]],

@@ -2,12 +2,11 @@
 // fields from the left (4 to 7), repeats (9); a refusal is passed up unchanged. `rest` is what stands
 // behind the line's word and tab, and `at` its place in the text.
 ghost use mathlib.Core.Path.{_≡_};
-ghost use mathlib.Core.List.{List, _∷_};
+ghost use mathlib.Core.List.{List};
 ghost use Prim.Native.Nat.{ℕ, _+_, _*_, _≤_, _<_, min};
 ghost use lib.ListN.{length};
-ghost use Rattle.products.specs.Sets.{oneIf};
 ghost use Rattle.refusals.specs.Refusal.{refusal};
-ghost use Rattle.fields.specs.Bytes.{part, sameBytes};
+ghost use Rattle.fields.specs.Bytes.{part};
 ghost use Rattle.fields.specs.Cutting.{fields, asOne, asTwo, asFour};
 ghost use Rattle.sheet.specs.Reading.{State, kindIn, ftsLine, featureLine, validLine, startLine, guardedMove, moveLine, stopLine, readLine};
 ghost use Rattle.sheet.specs.Tables.{Tables, tables, Lies};
@@ -38,7 +37,7 @@ pub(crate) fn read_line(
     c: Progress,
     names: &mut [[usize; 2]; 10],
     valid: &mut [u64; 16],
-    moves: &mut [[usize; 6]],
+    moves: &mut [[usize; 5]],
     move_guards: &mut [[u64; 16]],
     stops: &mut [[usize; 2]],
     stop_guards: &mut [[u64; 16]],
@@ -225,16 +224,6 @@ fn read_start(rest: &[u8], line: usize, c: Progress) -> LineRead
     })
 }
 
-// 1 if the guard is written `1`, else 0.
-fn plain(field: &[u8]) -> usize
-    ensures { λ r. ⌜ r ≡ oneIf (sameBytes (now (field .entry)) (49 ∷ List.[])) ⌝ }
-{
-    if fields::same_bytes(field, b"1") {
-        return 1;
-    }
-    0
-}
-
 fn read_move(
     text: &[u8],
     rest: &[u8],
@@ -242,7 +231,7 @@ fn read_move(
     line: usize,
     c: Progress,
     names: &[[usize; 2]; 10],
-    moves: &mut [[usize; 6]],
+    moves: &mut [[usize; 5]],
     move_guards: &mut [[u64; 16]],
     seen: &mut [u64; 128],
 ) -> LineRead
@@ -309,7 +298,7 @@ fn keep_move(
     to: usize,
     guard: &[u8],
     names: &[[usize; 2]; 10],
-    moves: &mut [[usize; 6]],
+    moves: &mut [[usize; 5]],
     move_guards: &mut [[u64; 16]],
     seen: &mut [u64; 128],
 ) -> LineRead
@@ -324,8 +313,8 @@ fn keep_move(
     if is_repeat(text, moves, k, seen, from, action, to) {
         return refuse(9, line);
     }
-    // LINE, FROM, ACTION, ACTION_END, TO and ALWAYS.
-    moves[k] = [line, from, place, place + action.len(), to, plain(guard)];
+    // LINE, FROM, ACTION, ACTION_END and TO.
+    moves[k] = [line, from, place, place + action.len(), to];
     LineRead::Kept(Progress {
         section: 3,
         valid: c.valid,

@@ -17,7 +17,7 @@ use tables::TO;
 // Whether one of the first `count` moves has this from, action and to; leaves a mark at their place.
 pub(crate) fn is_repeat(
     text: &[u8],
-    moves: &[[usize; 6]],
+    moves: &[[usize; 5]],
     count: usize,
     seen: &mut [u64; 128],
     from: usize,
@@ -59,7 +59,7 @@ fn mix(h: usize, b: u8) -> usize
 }
 
 // Whether a move's row has this from, action and to.
-fn is_move(text: &[u8], row: [usize; 6], from: usize, action: &[u8], to: usize) -> bool
+fn is_move(text: &[u8], row: [usize; 5], from: usize, action: &[u8], to: usize) -> bool
     ensures { λ r. ⌜ ((m : Move) → MoveRow (now (text .entry)) row m → r ≡ isMove from (now (action .entry)) to m) ⌝ }
 {
     if from != row[FROM] {
@@ -76,7 +76,7 @@ fn is_move(text: &[u8], row: [usize; 6], from: usize, action: &[u8], to: usize) 
 // Whether one of the first `count` moves has this from, action and to.
 fn has_move(
     text: &[u8],
-    moves: &[[usize; 6]],
+    moves: &[[usize; 5]],
     count: usize,
     from: usize,
     action: &[u8],

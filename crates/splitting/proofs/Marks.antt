@@ -13,10 +13,10 @@ use borrow.Author.Tests.{eqb-true, eqb-false, eq-eqb, ne-eqb}
 use lib.Bits.{bitOr, bitXor}
 use lib.Dec.{eqb}
 use lib.ListN.{getD, length, set, length-set}
-use lib.Pow.{pow-add, pow-lt, pow-mono, pow-pos, shr-shr, high, low, field, mod-mod-pow}
+use lib.Pow.{pow-add, pow-lt, pow-mono, pow-pos, shr-shr, high, low}
 use lib.Seq.{getD-set-same, getD-set-other}
 use Rattle.products.specs.Sets.{bit, has}
-use Rattle.products.proofs.Bits.{bit-or, bit-xor, zero-bit}
+use Rattle.products.proofs.Bits.{bit-or, bit-xor, zero-bit, cut-bit}
 use Rattle.products.proofs.Laws.{has-at}
 use Rattle.splitting.specs.Splitting.{inSet, alike, all}
 use Rattle.splitting.specs.Inside.{freeOf, Word, Level, First, Typical}
@@ -372,14 +372,7 @@ packed-lt y (suc n) =
     let e : 2 ^ suc n + 2 ^ suc n ≡ 2 ^ suc (suc n) = omega (arith, two-pow (suc n)) in
     rw e at (joined-lt (packed y n) (y (suc n)) (2 ^ suc n) (packed-lt y n))
 
--- what is cut off above does not matter
-pub cut-bit : (x k m : ℕ) → k < m → bit (x % 2 ^ m) k ≡ bit x k
-cut-bit x k m lk =
-    let e : m - 1 - k + 1 + k ≡ m = omega arith in
-    let a : x % 2 ^ (m - 1 - k + 1 + k) / 2 ^ k ≡ x / 2 ^ k % 2 ^ (m - 1 - k + 1) = field x (m - 1 - k + 1) k in
-    let b : x / 2 ^ k % 2 ^ (m - 1 - k + 1) % 2 ^ 1 ≡ x / 2 ^ k % 2 ^ 1 = mod-mod-pow (x / 2 ^ k) (m - 1 - k) 1 in
-    ap (λ (n : ℕ). n % 2) (rw e at a) ∙ b
-
+-- what is added above does not matter
 pub below-bit : (x z m k : ℕ) → x < 2 ^ m → k < m → bit (x + z * 2 ^ m) k ≡ bit x k
 below-bit x z m k l lk =
     let e : (z * 2 ^ m + x) % 2 ^ m ≡ x = low z m l in

@@ -15,8 +15,8 @@ pub const NAME: usize = 0;
 
 pub const NAME_END: usize = 1;
 
-// A move's row: its line, the state it leaves, where its action begins and the place behind it, the state
-// it leads to, and 1 if its guard is written `1`. A stop's row: its line and its state.
+// A move's row: its line, the state it leaves, where its action begins and the place behind it, and the
+// state it leads to. A stop's row: its line and its state.
 pub const LINE: usize = 0;
 
 pub const FROM: usize = 1;
@@ -26,7 +26,5 @@ pub const ACTION: usize = 2;
 pub const ACTION_END: usize = 3;
 
 pub const TO: usize = 4;
-
-pub const ALWAYS: usize = 5;
 
 pub const STATE: usize = 1;

@@ -6,7 +6,7 @@ use Prim.Native.Nat.{ℕ, _<_, _≤_, min}
 use Rattle.products.specs.declared.Found.{Found}
 use Rattle.products.specs.declared.Found.the-variants.{At, Nothing}
 use native.Mathlib.Omega.{arith}
-use Rattle.products.specs.Sets.{has, In, Least, Finds}
+use Rattle.products.specs.Sets.{has, In, Least, Finds, Full, Lacks}
 use Rattle.products.proofs.Laws.{nothing-has}
 use Rattle.verdicts.specs.declared.Verdict.the-variants.{Dead, False, Must, May}
 use Rattle.verdicts.specs.declared.StateVerdict.the-variants.{Hidden, Live}
@@ -20,19 +20,19 @@ module _ {here guard : List ℕ} {m : Found} (l : Finds _≤_ (InBoth here guard
   made-least : {p : ℕ} → m ≡ At p → Least _≤_ (InBoth here guard) p
   made-least e = found-at _≤_ (InBoth here guard) l e
 
-  pub move-must : {p plain : ℕ} → m ≡ At p → plain ≡ 1 → MoveSets here guard plain (Must p)
+  pub move-must : {p : ℕ} → m ≡ At p → Full guard → MoveSets here guard (Must p)
   move-must e w = (w, made-least e)
 
   module _ {n : Found} (k : Finds _≤_ (InOnly here guard) n) where
     pub move-dead : {f : Found} → f ≡ n → m ≡ Nothing → ((p : ℕ) → InBoth here guard p → ⊥) × Finds _≤_ (InOnly here guard) f
     move-dead d e = (found-none _≤_ (InBoth here guard) l e, rw d k)
 
-    module _ {p plain : ℕ} (e : m ≡ At p) (w : plain ≡ 1 → ⊥) where
-      pub move-false : n ≡ Nothing → MoveSets here guard plain (False p)
-      move-false f = (w, made-least e, found-none _≤_ (InOnly here guard) k f)
+    module _ {p : ℕ} (e : m ≡ At p) where
+      pub move-false : Lacks guard → n ≡ Nothing → MoveSets here guard (False p)
+      move-false w f = (w, made-least e, found-none _≤_ (InOnly here guard) k f)
 
-      pub move-may : {q : ℕ} → n ≡ At q → MoveSets here guard plain (May p q)
-      move-may f = (w, made-least e, found-at _≤_ (InOnly here guard) k f)
+      pub move-may : {q : ℕ} → n ≡ At q → MoveSets here guard (May p q)
+      move-may f = (made-least e, found-at _≤_ (InOnly here guard) k f)
 
 -- ---- states
 
@@ -62,8 +62,8 @@ module _ {P : ℕ → Type 0} (first : (p : ℕ) → P p → In [] p) where
   nobody : (p : ℕ) → P p → ⊥
   nobody p i = omega (arith, first p i .is, nothing-has p)
 
-pub none-move : (guard : List ℕ) (plain : ℕ) → MoveSets [] guard plain (Dead Nothing)
-none-move guard plain = (nobody (λ p i. i .first), nobody (λ p i. i .first))
+pub none-move : (guard : List ℕ) → MoveSets [] guard (Dead Nothing)
+none-move guard = (nobody (λ p i. i .first), nobody (λ p i. i .first))
 
 pub none-stop : (guard out : List ℕ) → StopSets [] guard out Idle
 none-stop guard out = nobody (λ p i. i .first)

@@ -8,7 +8,7 @@ use Rattle.sheet.proofs.clear_moves.Statement.{statement}
 use Rattle.sheet.proofs.clear_moves.Tie as tie
 
 abbrev Inv-loop : tie.InvT-loop
-Inv-loop rows₀ i₀ rows i = Cleared (replicate 6 0) rows₀ rows i
+Inv-loop rows₀ i₀ rows i = Cleared (replicate 5 0) rows₀ rows i
 
 abbrev μ-loop : tie.MeasureT-loop
 μ-loop rows₀ i₀ rows i = length rows₀ - i

@@ -18,8 +18,8 @@ returns-2 c =
 returns-3 : tie.Need-returns-3
 returns-3 c =
     λ v t h st so lies.
-    move-kept _ st _ _ _ _ _ (c .before .before .before .before .before .before .before .read-whole .result) _ so (c .before .before .before .before .before .before .before .read-whole .ensures) (c .before .before .before .before .before .enum-told .given .1) (c .before .before .is-repeat .ensures) (c .before .if1 .left)
-    (c .before .before .before .before .before .before .before .before .before .before .before .before .pre .1) (c .before .before .before .before .before .before .before .before .before .before .before .before .pre .2) (c .before .before .before .before .before .before .before .before .before .before .before .before .pre .3) lies (c .plain .ensures)
+    move-kept _ st _ _ _ _ _ (c .before .before .before .before .before .before .read-whole .result) _ so (c .before .before .before .before .before .before .read-whole .ensures) (c .before .before .before .before .enum-told .given .1) (c .before .is-repeat .ensures) (c .if1 .left)
+    (c .before .before .before .before .before .before .before .before .before .before .before .pre .1) (c .before .before .before .before .before .before .before .before .before .before .before .pre .2) (c .before .before .before .before .before .before .before .before .before .before .before .pre .3) lies
 
 pub keep-move-spec : {M : Type 1} → statement M
 keep-move-spec =
@@ -39,7 +39,6 @@ keep-move-spec =
     (λ c. search needs)
     returns-2
     (λ c. search needs)
-    (λ c κs. search needs)
     (λ c. search needs)
     (λ c. search needs)
     (λ c. search needs)
