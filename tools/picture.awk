@@ -124,7 +124,7 @@ function legend(   kinds, text, i) {
     for (i = 1; i <= last_stop; i++) kinds[told[stops[i]]] = 1
     if ("dead" in kinds) explain(lines(1, "border='2' style='dotted' color='" RED "'"), "dead: no valid product makes it")
     if ("false" in kinds) explain(lines(2, "border='1' color='" PURPLE "'"), "false optional: all who get there make it")
-    if ("must" in kinds) explain(lines(1, "border='1'"), "must: its guard always holds")
+    if ("must" in kinds) explain(lines(1, "border='1'"), "must: its guard holds in every product")
     if ("may" in kinds) explain(lines(1, "border='1' style='dashed'"), "may: some make it, some do not")
     if ("hidden" in kinds) explain(box("octagon", "border='2' color='" RED "' bgcolor='" PALE "'"), "hidden deadlock: it has moves, and somebody is stuck")
     if ("unreached" in kinds) explain(box("dashed", "style='dashed' color='" GREY "'"), "unreached: no valid product gets there")

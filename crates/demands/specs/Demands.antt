@@ -33,6 +33,7 @@ use Rattle.running.specs.Runs.{Run}
 use Rattle.running.specs.Shown.{rowOf as boxRow}
 use Rattle.demands.specs.Printed.{bytes}
 use Rattle.demands.specs.Examples.{dishText}
+use Rattle.demands.specs.Respelled.{Respelled}
 
 -- ---- demand 1: any bytes, any room: the work or a refusal from the table. What is so of both calls with one room is said once, of a call that promises
 -- P of the sheet, the room before, the room after and the answer; P is ReportPromise or CleanPromise.
@@ -114,6 +115,17 @@ CleanExists = (s : List ℕ) (r : Sheet) → readSheet s ≡ kept r → (x : Lis
 -- products, count and depth of the definitions, over every valid product.
 abbrev pub Verdicts : Type 0
 Verdicts = (s room x : List ℕ) (n : ℕ) → ReportPromise s room x (one.Done n) → (r : Sheet) × (readSheet s ≡ kept r) × Accepted r × IsReport _≤_ r (take n x)
+
+-- spelling-isnt-meaning: "Spelling isn't meaning", for guards are functions: two sheets that differ in nothing but how their guards are spelled have the same
+-- report, and behave alike.
+abbrev pub SpellingIsntMeaning : Type 0
+SpellingIsntMeaning = (r q : Sheet) → Respelled r q → ((x : List ℕ) → IsReport _≤_ r x ↔ IsReport _≤_ q x) × Same r q
+
+-- respelled-reports, respelled-cleans: so two runs of `report` on such sheets lay the same bytes, and so do two of `clean`.
+abbrev pub SameBytes : (List ℕ → List ℕ → List ℕ → Answer → Type 0) → Type 0
+SameBytes P =
+    (s t u v x y : List ℕ) (m n : ℕ) (r q : Sheet) → P s u x (one.Done m) → P t v y (one.Done n)
+    → readSheet s ≡ kept r → readSheet t ≡ kept q → Respelled r q → take m x ≡ take n y
 
 -- depth-is-small: "The depth is never more than 63."
 abbrev pub DepthIsSmall : Type 0

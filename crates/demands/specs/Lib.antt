@@ -1,3 +1,4 @@
+pub mod Respelled
 pub mod Demands
 pub mod Printed
 pub mod Examples

@@ -1,23 +1,34 @@
 -- Words joined by `|`: what is known of those that were joined, how that grows by a word, and what it says where all are: of the words of a set,
--- and of the differences of two sets' words. Assumes nothing.
-use mathlib.Core.Path.{_≡_, _∙_}
+-- and of the differences of two sets' words. And what it says of a set to be the full one or not. Assumes nothing.
+use mathlib.Core.Path.{_≡_, refl, _∙_}
 use mathlib.Core.List.{List}
 use mathlib.Core.Logic.{_⊎_, inl, inr, ⊎-elim}
 use Prim.Native.Nat.{ℕ, zero, suc, _+_, _*_, _/_, _%_, _^_, _<_, _≤_}
+use native.Mathlib.Decide.{decLt}
 use native.Mathlib.Nat.{eq-or-lt-of-le}
 use native.Mathlib.Omega.{arith}
 use borrow.Author.Count.{below-more}
 use lib.Bits.{bitOr, bitXor, and-le-l, and-le-r, or-add-and, xor-add-and, xor-self}
-use lib.ListN.{length, getD}
+use lib.ListN.{length, getD, replicate, getD-replicate, List·getD-eq-default}
 use lib.Seq.{ext-getD}
-use Rattle.products.specs.Sets.{bit, has, In}
+use Rattle.products.specs.Sets.{bit, has, In, Full, Lacks, Words}
 use Rattle.products.proofs.Bits.{zero-bit, eq-bits}
-use Rattle.products.proofs.Laws.{has-at, has-le}
+use Rattle.products.proofs.Laws.{has-at, has-le, full-has}
+use Rattle.products.proofs.Determined.{members-determine}
 
--- a product of s, or none below n
-some-or-none : (s : List ℕ) (n : ℕ) → n ≤ 1024 → ((q : ℕ) × In s q) ⊎ ((q : ℕ) → q < n → has s q ≡ 0)
-some-or-none s zero le = inr (λ q lq. absurd (omega arith))
-some-or-none s (suc n) le = ⊎-elim inl (λ z. ⊎-elim (λ e. inl (n, record { small = omega arith; is = e })) (λ lt. inr (λ q lq. below-more (λ q. has s q ≡ 0) n z (omega arith) q (omega arith))) (eq-or-lt-of-le (has-le s n))) (some-or-none s n (omega arith))
+-- one of the numbers below n has the property P, or all have Q
+one-or-all : {P Q : ℕ → Type 0} → ((q : ℕ) → P q ⊎ Q q) → (n : ℕ) → ((q : ℕ) × (q < n) × P q) ⊎ ((q : ℕ) → q < n → Q q)
+one-or-all d zero = inr (λ q l. absurd (omega arith))
+one-or-all {Q = Q} d (suc n) =
+    ⊎-elim (λ z. inl (z .0, omega (arith, z .1), z .2))
+    (λ f. ⊎-elim (λ p. inl (n, omega arith, p)) (λ h. inr (λ q l. below-more Q n f h q (omega arith))) (d n)) (one-or-all d n)
+
+-- s has the product q, or lacks it
+has-or-lacks : (s : List ℕ) (q : ℕ) → (has s q ≡ 1) ⊎ (has s q ≡ 0)
+has-or-lacks s q = ⊎-elim inl (λ l. inr (omega arith)) (eq-or-lt-of-le (has-le s q))
+
+lacks-or-has : (s : List ℕ) (q : ℕ) → (has s q ≡ 0) ⊎ (has s q ≡ 1)
+lacks-or-has s q = ⊎-elim inr inl (has-or-lacks s q)
 
 -- all is 0 exactly where the first i of the words are
 pub record Joined (word : ℕ → ℕ) (i all : ℕ) : Type 0 where
@@ -64,7 +75,9 @@ module _ {s : List ℕ} {i all : ℕ} (h : Joined (wordOf s) i all) where
 
   -- so there is a product
   pub joined-some : i ≤ 16 → ((k : ℕ) → k < 16 → getD s k 0 < 2 ^ 64) → (all ≡ 0 → ⊥) → (q : ℕ) × In s q
-  joined-some le word ne = ⊎-elim (λ m. m) (λ z. absurd (joined-full le word ne (λ q m. omega (arith, z q (m .small), m .is)))) (some-or-none s 1024 (omega arith))
+  joined-some le word ne =
+      ⊎-elim (λ z. (z .0, record { small = z .1; is = z .2 })) (λ z. absurd (joined-full le word ne (λ q m. omega (arith, z q (m .small), m .is))))
+      (one-or-all (has-or-lacks s) 1024)
 
 -- ---- the differences of two sets' words
 
@@ -81,3 +94,26 @@ module _ {a b : List ℕ} {i all : ℕ} (h : Joined (difference a b) i all) wher
 
   pub joined-other : (all ≡ 0 → ⊥) → a ≡ b → ⊥
   joined-other ne e = ne (h .whole (λ k lk. rw e (xor-self (getD b k 0))))
+
+-- ---- the full set
+
+abbrev full : List ℕ
+full = replicate 16 0xffff_ffff_ffff_ffff
+
+-- what every value of type [u64; 16] is, from its sixteen words
+words-of : {s : List ℕ} → length s ≡ 16 → ((k : ℕ) → k < 16 → getD s k 0 < 2 ^ 64) → Words s
+words-of {s} long word = record { long = long; word = λ k. go k (decLt k 16) }
+  where
+    go : (k : ℕ) → Dec (k < 16) → getD s k 0 < 2 ^ 64
+    go k (yes l) = word k l
+    go k (no n) = let past : length s ≤ k = omega arith in rw (List·getD-eq-default s 0 past) (omega arith)
+
+full-words : Words full
+full-words = words-of refl (λ k l. rw (getD-replicate {A = ℕ} 16 k 0xffff_ffff_ffff_ffff 0 l) (omega arith))
+
+pub full-is : {s : List ℕ} → s ≡ full → Full s
+full-is e p l = rw e (full-has p l)
+
+pub lacks-is : {s : List ℕ} → length s ≡ 16 → ((k : ℕ) → k < 16 → getD s k 0 < 2 ^ 64) → (s ≡ full → ⊥) → Lacks s
+lacks-is {s} long word ne =
+    ⊎-elim (λ z. z) (λ f. absurd (ne (members-determine (λ p. 1) s full (words-of long word) full-words f full-has))) (one-or-all (lacks-or-has s) 1024)

@@ -6,10 +6,10 @@ use Prim.Native.Nat.{ℕ, zero, suc, _+_, _*_, _^_, _<_, _≤_}
 use native.Mathlib.Omega.{arith}
 use native.Mathlib.Numerals.{add-one}
 use borrow.Author.Count.{below-more}
-use lib.ListN.{getD, replicate}
-use Rattle.products.specs.Sets.{bit, has, Picked, InOnly, Least, Full, Lacks}
+use lib.ListN.{getD}
+use Rattle.products.specs.Sets.{bit, Picked, Least}
 use Rattle.products.proofs.Bits.{zero-bit, some-bit}
-use Rattle.products.proofs.Laws.{has-at, has-le, full-has}
+use Rattle.products.proofs.Laws.{has-at}
 
 -- no product before bit k of word w is picked
 pub record Passed (y : ℕ) (a b : List ℕ) (w k : ℕ) : Type 0 where
@@ -58,16 +58,3 @@ module _ {y : ℕ} {a b : List ℕ} {w : ℕ} where
         upto : (k : ℕ) → k ≤ 64 → Passed y a b w k
         upto zero le = h
         upto (suc k) le = rw (← add-one k) (passed-bit (upto k (omega arith)) le (rw e (λ o. omega (arith, zero-bit k))))
-
--- ---- the full set and s
-
-module _ {s : List ℕ} where
-  -- a product that the full set alone has
-  pub lacks-one : (q : ℕ) × InOnly (replicate 16 0xffff_ffff_ffff_ffff) s q → Lacks s
-  lacks-one (q, i) = (q, i .first .small, i .second)
-
-  -- there is none
-  pub lacks-none : ((q : ℕ) → InOnly (replicate 16 0xffff_ffff_ffff_ffff) s q → ⊥) → Full s
-  lacks-none f q l =
-      let n : has s q ≡ 0 → ⊥ = λ e. f q (record { first = record { small = l; is = full-has q l }; second = e }) in
-      omega (arith, has-le s q)

@@ -29,6 +29,13 @@ pub fn same(a: [u64; 16], b: [u64; 16]) -> bool
     differ == 0
 }
 
+// Whether s has all 1,024 products.
+pub fn is_full(s: [u64; 16]) -> bool
+    ensures { λ r. ⌜ (r ≡ true → Full s) × (r ≡ false → Lacks s) ⌝ }
+{
+    same(s, [0xffff_ffff_ffff_ffffu64; 16])
+}
+
 // How many products s has.
 pub fn count(s: [u64; 16]) -> usize
     ensures { λ r. ⌜ r ≡ countTo s 1024 ⌝ }
@@ -105,14 +112,6 @@ fn any(a: &[u64; 16], b: &[u64; 16], out: bool) -> bool
         w += 1;
     }
     false
-}
-
-// Whether s has all 1,024 products. The first word that lacks one tells.
-pub fn is_full(s: &[u64; 16]) -> bool
-    ensures { λ r. ⌜ (r ≡ true → Full (now (s .entry))) × (r ≡ false → Lacks (now (s .entry))) ⌝ }
-{
-    let full = [0xffff_ffff_ffff_ffffu64; 16];
-    !any(&full, s, true)
 }
 
 // The bits of a that b has, or has not if `out`.
