@@ -1,5 +1,5 @@
--- What can be decided of an accepted sheet: whether a valid product reaches a state, makes a move, misses it or stays, and what the depth is. A way of k
--- moves is decided move by move, and a state that is reached has a way of at most 63 moves. Assumes nothing.
+-- What can be decided of an accepted sheet: whether a guard fails in some product; whether a valid product reaches a state, makes a move, misses it or stays;
+-- and what the depth is. A way of k moves is decided move by move, and a state that is reached has a way of at most 63 moves. Assumes nothing.
 use mathlib.Core.Bool.{Bool, true, false, Bool-discrete}
 use mathlib.Core.List.{List, [], _∷_, List·Memᴰ, List·Memᴰ·head, List·Memᴰ·tail, List·Memᴰ·not-nil, List·Memᴰ·cases-cons}
 use mathlib.Core.Logic.{_⊎_, inl, inr, ⊎-elim, Dec·and, Dec·not, Dec·of-iff}

@@ -9,14 +9,13 @@ use lib.ListN.{length, take, drop}
 use lib.Seq.{take-append-seam}
 use Rattle.refusals.specs.declared.Refusal.{Refusal}
 use Rattle.refusals.specs.Refusal.{refusal}
-use Rattle.sheet.specs.Sheet.{Sheet, names}
+use Rattle.sheet.specs.Sheet.{Sheet}
 use Rattle.sheet.specs.Reading.{kept, readSheet}
 use Rattle.sheet.proofs.Accepted.{accepted, kept-refused}
 use Rattle.sheet.proofs.Numbered.{kept-lines}
 use Rattle.sheet.proofs.ReadBack.{alike-names, alike-back}
 use Rattle.family.proofs.Meaning.{depth-small}
 use Rattle.reporting.specs.Report.{IsReport}
-use Rattle.reporting.proofs.Determined.{report-determined as one-report}
 use Rattle.reporting.proofs.Lengths.{report-short}
 use Rattle.normal.specs.Behaviour.{Same}
 use Rattle.normal.specs.Clean.{IsClean}
@@ -32,8 +31,7 @@ use Rattle.calls.specs.declared.Answers.{Answers}
 use Rattle.calls.specs.declared.Answers.the-variants as two
 use Rattle.calls.specs.Promise.{TooLong, ReportPromise, CleanPromise, BothPromise}
 use Rattle.calls.proofs.Promised.{kept-one, filled-fits, report-promise-determined, clean-promise-determined, both-promise-determined}
-use Rattle.demands.specs.Demands.{Determined, BothDetermined, RoomEnough, BothAsSingle, Verdicts, SameBytes, DepthIsSmall, CleanKeepsTheMoves, CleanedKeepsTheMoves, CleanIsANormalForm, CleanIsClean, TwoRuns, CleanAgainSame, CleanReported}
-use Rattle.demands.proofs.Respelled.{spelling-isnt-meaning}
+use Rattle.demands.specs.Demands.{Determined, BothDetermined, RoomEnough, BothAsSingle, Verdicts, DepthIsSmall, CleanKeepsTheMoves, CleanedKeepsTheMoves, CleanIsANormalForm, CleanIsClean, TwoRuns, CleanAgainSame, CleanReported}
 
 -- ---- demand 1
 
@@ -89,14 +87,6 @@ verdicts s room x n (r, k, h) =
     let e = first (h .text) (drop n room) (h .is-length) (h .laid) in
     (r, k, accepted s k, subst (IsReport _≤_ r) (sym e) (h .is))
 
-pub respelled-reports : SameBytes ReportPromise
-respelled-reports s t u v x y m n r q h k e f z =
-    let a = verdicts s u x m h in
-    let b = verdicts t v y n k in
-    let c : a .0 ≡ r = cc in
-    let d : b .0 ≡ q = cc in
-    one-report (take m x) (take n y) (spelling-isnt-meaning r q z .0 (take m x) .0 (rw (sym c) (a .3))) (rw (sym d) (b .3))
-
 pub depth-is-small : DepthIsSmall
 depth-is-small s r d e h = depth-small (accepted s e) h
 
@@ -149,9 +139,6 @@ two-runs s t u v x y m n r q h k e f same =
     let c : a .0 ≡ r = cc in
     let d : b .0 ≡ q = cc in
     clean-is-a-normal-form s t (take m x) (take n y) r q e f same (rw (sym c) (a .2)) (rw (sym d) (b .2)) (a .3) (b .3)
-
-pub respelled-cleans : SameBytes CleanPromise
-respelled-cleans s t u v x y m n r q h k e f z = two-runs s t u v x y m n r q h k e f (ap names (z .features)) .1 (spelling-isnt-meaning r q z .1)
 
 pub clean-again-same : CleanAgainSame
 clean-again-same s u x v y m (one.Done n) h k fits =

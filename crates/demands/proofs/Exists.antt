@@ -4,7 +4,7 @@ use mathlib.Core.Bool.{Bool, true, false, decide, decide-iff}
 use mathlib.Core.List.{List, [], _∷_, _++_, List·Memᴰ, List·Memᴰ·head, List·Memᴰ·tail, List·Memᴰ·not-nil, List·Memᴰ·cases-cons, List-discrete}
 use mathlib.Core.Logic.{_⊎_, inl, inr, ⊎-elim, Dec·of-iff}
 use mathlib.Core.Path.{_≡_, refl}
-use Prim.Native.Nat.{ℕ, zero, suc, _≤_, _<_}
+use Prim.Native.Nat.{ℕ, zero, suc, _<_}
 use native.Mathlib.Decide.{ℕ-discrete}
 use native.Mathlib.Omega.{arith}
 use Rattle.products.specs.declared.Found.{Found}

@@ -1,5 +1,5 @@
-pub mod Respelled
 pub mod Demands
+pub mod Respelled
 pub mod Refusals
 pub mod Box
 pub mod Decided

@@ -1,12 +1,18 @@
 -- Spelling isn't meaning: line for line the guards hold in the same products, so each valid product has the same ways in both sheets, and with the ways go
--- depth, moves, verdicts and rows. Each law goes from one sheet to the other, and `turned` gives the way back. Assumes nothing.
-use mathlib.Core.Path.{_≡_, refl, sym, _∙_}
-use mathlib.Core.Bool.{true, and-eq-true-iff}
+-- depth, moves, verdicts and rows, and what the calls promise. Each law goes from one sheet to the other, and `turned` gives the way back. Assumes nothing.
+use mathlib.Core.Path.{_≡_, refl, sym, ap, subst, _∙_}
+use mathlib.Core.Bool.{Bool, true, false, not, _||_}
 use mathlib.Core.List.{List, List·Memᴰ, List·Memᴰ·head, List·Memᴰ·tail}
 use mathlib.Core.Logic.{inl, inr}
-use Prim.Native.Nat.{ℕ}
-use Rattle.guards.specs.Guard.{holds}
-use Rattle.sheet.specs.Sheet.{Move, Stop, Sheet, isProduct}
+use Prim.Native.Nat.{ℕ, _≤_}
+use lib.Dec.{eqb}
+use lib.ListN.{length}
+use Rattle.refusals.specs.declared.Refusal.{Refusal}
+use Rattle.products.specs.Sets.{bit}
+use Rattle.guards.specs.Guard.{holds, partsHold}
+use Rattle.sheet.specs.Sheet.{Move, Stop, Sheet, names, isProduct}
+use Rattle.sheet.specs.Reading.{kept, readSheet}
+use Rattle.sheet.proofs.Accepted.{kept-refused}
 use Rattle.family.specs.Ways.{Valid, Reached, Way, Fewest, Depth}
 use Rattle.family.proofs.Steps.{reached-way, way-reached}
 use Rattle.verdicts.specs.declared.Verdict.{Verdict}
@@ -17,10 +23,19 @@ use Rattle.verdicts.specs.declared.StopVerdict.{StopVerdict}
 use Rattle.verdicts.specs.declared.StopVerdict.the-variants.{Untrue, Idle, True}
 use Rattle.verdicts.specs.Verdicts.{Makes, MadeIn, MissedIn, FalseOptional, JudgedAs, LeadsOut, Stuck, ReachedIn, StateAs, Counted, nobody, counts, passes, Declares, UntrueIn, StopAs, Named}
 use Rattle.verdicts.proofs.Agreeing.{Agree, least-as, none-as, some-as, finds-as}
+use Rattle.verdicts.proofs.Meaning.{valid-product}
 use Rattle.reporting.specs.Report.{MoveRows, StateRows, StopRows, IsReport}
 use Rattle.normal.specs.Behaviour.{Goes, Same}
+use Rattle.normal.specs.Clean.{IsClean}
+use Rattle.normal.proofs.Carry.{carry}
+use Rattle.calls.specs.declared.Answer.{Answer}
+use Rattle.calls.specs.declared.Answer.the-variants as one
+use Rattle.calls.specs.declared.Answers.{Answers}
+use Rattle.calls.specs.declared.Answers.the-variants as two
+use Rattle.calls.specs.Promise.{Filled, TooLong, Fits, OneText, nothing, ReportPromise, cleanMost, CleanPromise, BothPromise}
+use Rattle.calls.proofs.Promised.{kept-one, report-promise-determined, clean-promise-determined, both-promise-determined}
 use Rattle.demands.specs.Respelled.{MoveAlike, StopAlike, Paired, Respelled}
-use Rattle.demands.specs.Demands.{SpellingIsntMeaning}
+use Rattle.demands.specs.Demands.{SpellingIsntMeaning, SameAnswer, BothSameAnswer, DealersGuard}
 
 -- ---- line for line, and the other way round
 
@@ -56,18 +71,15 @@ module _ {r q : Sheet} (e : Respelled r q) where
 
 -- ---- one valid product: it is valid in the other sheet too, has the same ways there and makes the same moves
 
-is-product : {r : Sheet} {p : ℕ} → Valid r p → isProduct r p ≡ true
-is-product {r} {p} v = and-eq-true-iff (isProduct r p) (holds (r .valid) p) .0 (v .is) .0
-
 module _ {r q : Sheet} (e : Respelled r q) {p : ℕ} (v : Valid r p) where
   valid-too : Valid q p
-  valid-too = record { is = rw (← e .features, ← e .valid p (is-product v)) (v .is) }
+  valid-too = record { is = rw (← e .features, ← e .valid p (valid-product v)) (v .is) }
 
   way-too : {k s : ℕ} → Way r p k s → Way q p k s
   way-too Way.none = rw (e .start) Way.none
   way-too (Way.more i w h) =
       let z = partner (e .moves) i in
-      rw (z .2 .to) (Way.more (z .1) (rw (z .2 .from) at (way-too w)) (sym (z .2 .guard p (is-product v)) ∙ h))
+      rw (z .2 .to) (Way.more (z .1) (rw (z .2 .from) at (way-too w)) (sym (z .2 .guard p (valid-product v)) ∙ h))
 
   reached-too : {s : ℕ} → Reached r p s → Reached q p s
   reached-too w = way-reached (way-too (reached-way w .1))
@@ -76,7 +88,7 @@ module _ {r q : Sheet} (e : Respelled r q) {p : ℕ} (v : Valid r p) where
   from-too a w = rw (← a .from) (reached-too w)
 
   makes-too : {m k : Move} → MoveAlike r m k → Makes r p m → Makes q p k
-  makes-too a i = record { reached = from-too a (i .reached); held = sym (a .guard p (is-product v)) ∙ i .held }
+  makes-too a i = record { reached = from-too a (i .reached); held = sym (a .guard p (valid-product v)) ∙ i .held }
 
   goes-too : {f t : ℕ} {a : List ℕ} → Goes r p f a t → Goes q p f a t
   goes-too g =
@@ -167,7 +179,7 @@ stuck-too e p i =
       makes-none = λ k o x. let z = out-too (turned e) o in i .makes-none (z .0) (z .1) (makes-too (turned e) v (z .2) x);
       undeclared = λ d j f h.
           let z = partner (turned e .stops) j in
-          i .undeclared (z .0) (z .1) (sym (z .2 .state) ∙ f) (sym (z .2 .guard p (is-product v)) ∙ h);
+          i .undeclared (z .0) (z .1) (sym (z .2 .state) ∙ f) (sym (z .2 .guard p (valid-product v)) ∙ h);
     }
 
 counted-as : {P Q : ℕ → Type 0} {n k : ℕ} → Agree P Q → Counted P n k → Counted Q n k
@@ -202,7 +214,7 @@ module _ {r q : Sheet} (e : Respelled r q) {d c : Stop} (a : StopAlike r d c) wh
       record {
         valid = valid-too e (i .valid);
         reached = rw (← a .state) (reached-too e (i .valid) (i .reached));
-        held = sym (a .guard p (is-product (i .valid))) ∙ i .held;
+        held = sym (a .guard p (valid-product (i .valid))) ∙ i .held;
       }
 
   untrue-too : (p : ℕ) → UntrueIn r d p → UntrueIn q c p
@@ -258,5 +270,61 @@ module _ {R : ℕ → ℕ → Type 0} {r q : Sheet} (e : Respelled r q) where
         is = i .is;
       }
 
+clean-too : {r q : Sheet} {x : List ℕ} → Respelled r q → IsClean r x → IsClean q x
+clean-too e i = record { form = i .form; clean = carry (same-too e) (ap names (e .features)) (i .clean); is = i .is }
+
 pub spelling-isnt-meaning : SpellingIsntMeaning
-spelling-isnt-meaning r q e = (λ x. (report-too e, report-too (turned e)), same-too e)
+spelling-isnt-meaning r q e = (λ x. (report-too e, report-too (turned e)), λ x. (clean-too e, clean-too (turned e)), same-too e)
+
+-- ---- the calls: what one promises of a sheet, it promises of the other, and promises are determined
+
+module _ {I J : List ℕ → Type 0} (c : (x : List ℕ) → I x → J x) where
+  filled-too : {most n : ℕ} {room room′ : List ℕ} → Filled I most room room′ n → Filled J most room room′ n
+  filled-too f = record { text = f .text; is = c (f .text) (f .is); fits = f .fits; is-length = f .is-length; laid = f .laid }
+
+  long-too : {most line : ℕ} {d : Refusal} → TooLong I most line d → TooLong J most line d
+  long-too l = record { eleven = l .eleven; text = l .text; is = c (l .text) (l .is); longer = l .longer }
+
+  fits-too : {most : ℕ} → Fits I most → Fits J most
+  fits-too f = record { text = f .text; is = c (f .text) (f .is); fits = f .fits }
+
+module _ (s t : List ℕ) {r q : Sheet} (e : readSheet s ≡ kept r) (f : readSheet t ≡ kept q) where
+  -- what is so of the sheet that s is read as is so of r
+  as-read : (Is : Sheet → List ℕ → Type 0) {k : Sheet} → ((x : List ℕ) → Is r x → Is q x) → readSheet s ≡ kept k → (x : List ℕ) → Is k x → Is q x
+  as-read Is c h x i = c x (subst (λ (k : Sheet). Is k x) (kept-one s h e) i)
+
+  one-too : (Is : Sheet → List ℕ → Type 0) (most : ℕ) → ((x : List ℕ) → Is r x → Is q x) → (room x : List ℕ) (a : Answer)
+      → OneText nothing Is most s room x a → OneText nothing Is most t room x a
+  one-too Is most c room x (one.Done n) (k, h, p) = (q, f, filled-too (as-read Is c h) p)
+  one-too Is most c room x (one.Refused d) (h, inl k) = absurd (kept-refused s e k)
+  one-too Is most c room x (one.Refused d) (h, inr (k, g, inl z)) = absurd z
+  one-too Is most c room x (one.Refused d) (h, inr (k, g, inr z)) = (h, inr (q, f, inr (long-too (as-read Is c g) z)))
+
+  both-too : ((x : List ℕ) → IsReport _≤_ r x → IsReport _≤_ q x) → ((x : List ℕ) → IsClean r x → IsClean q x) → (room x clean u : List ℕ) (a : Answers)
+      → BothPromise s room x clean u a → BothPromise t room x clean u a
+  both-too c d room x clean u (two.Done n m) (k, h, p, l) = (q, f, filled-too (as-read (IsReport _≤_) c h) p, filled-too (as-read IsClean d h) l)
+  both-too c d room x clean u (two.Refused o) (h, i, inl k) = absurd (kept-refused s e k)
+  both-too c d room x clean u (two.Refused o) (h, i, inr (k, g, inl z)) = (h, i, inr (q, f, inl (long-too (as-read (IsReport _≤_) c g) z)))
+  both-too c d room x clean u (two.Refused o) (h, i, inr (k, g, inr (w, z))) =
+      (h, i, inr (q, f, inr (fits-too (as-read (IsReport _≤_) c g) w, long-too (as-read IsClean d g) z)))
+
+pub respelled-report : SameAnswer ReportPromise
+respelled-report s t room x y a b r q e f z h k =
+    report-promise-determined t room x y a b (one-too s t e f (IsReport _≤_) (length room) (λ w. report-too z) room x a h) k
+
+pub respelled-clean : SameAnswer CleanPromise
+respelled-clean s t room x y a b r q e f z h k = clean-promise-determined t room x y a b (one-too s t e f IsClean (cleanMost room) (λ w. clean-too z) room x a h) k
+
+pub respelled-both : BothSameAnswer
+respelled-both s t room clean x y u v a b r q e f z h k =
+    both-promise-determined t room clean x y u v a b (both-too s t e f (λ w. report-too z) (λ w. clean-too z) room x clean u a h) k
+
+-- ---- the dealer's guard: a product has the feature or has it not
+
+either-way : (b : Bool) → b || not b ≡ true
+either-way true = refl
+either-way false = refl
+
+pub dealers-guard : DealersGuard
+unfolding holds partsHold
+dealers-guard r m f p e l = (λ q i. rw e (either-way (eqb (bit q f) 1)), l)

@@ -10,10 +10,14 @@ use Prim.Native.Nat.{ℕ, _≤_}
 use lib.ListN.{length, take}
 use Rattle.refusals.specs.declared.Refusal.{Refusal}
 use Rattle.refusals.specs.Refusal.{refusal}
-use Rattle.sheet.specs.Sheet.{Sheet, names, isValid}
+use Rattle.products.specs.Sets.{Least}
+use Rattle.guards.specs.Guard.{disj, feature, neg, chain, one as single}
+use Rattle.sheet.specs.Sheet.{Move, Sheet, names, isValid}
 use Rattle.sheet.specs.Reading.{kept, refused, readSheet}
 use Rattle.sheet.specs.Accepted.{Accepted}
 use Rattle.family.specs.Ways.{Reached, Depth}
+use Rattle.verdicts.specs.declared.Verdict.the-variants.{Must}
+use Rattle.verdicts.specs.Verdicts.{MadeIn, JudgedAs}
 use Rattle.reporting.specs.Report.{IsReport}
 use Rattle.normal.specs.Behaviour.{Same}
 use Rattle.normal.specs.Clean.{IsClean}
@@ -117,15 +121,26 @@ abbrev pub Verdicts : Type 0
 Verdicts = (s room x : List ℕ) (n : ℕ) → ReportPromise s room x (one.Done n) → (r : Sheet) × (readSheet s ≡ kept r) × Accepted r × IsReport _≤_ r (take n x)
 
 -- spelling-isnt-meaning: "Spelling isn't meaning", for guards are functions: two sheets that differ in nothing but how their guards are spelled have the same
--- report, and behave alike.
+-- report and the same clean sheet, and behave alike.
 abbrev pub SpellingIsntMeaning : Type 0
-SpellingIsntMeaning = (r q : Sheet) → Respelled r q → ((x : List ℕ) → IsReport _≤_ r x ↔ IsReport _≤_ q x) × Same r q
+SpellingIsntMeaning =
+    (r q : Sheet) → Respelled r q → ((x : List ℕ) → IsReport _≤_ r x ↔ IsReport _≤_ q x) × ((x : List ℕ) → IsClean r x ↔ IsClean q x) × Same r q
 
--- respelled-reports, respelled-cleans: so two runs of `report` on such sheets lay the same bytes, and so do two of `clean`.
-abbrev pub SameBytes : (List ℕ → List ℕ → List ℕ → Answer → Type 0) → Type 0
-SameBytes P =
-    (s t u v x y : List ℕ) (m n : ℕ) (r q : Sheet) → P s u x (one.Done m) → P t v y (one.Done n)
-    → readSheet s ≡ kept r → readSheet t ≡ kept q → Respelled r q → take m x ≡ take n y
+-- respelled-report, respelled-clean, respelled-both: so a call on either of them, in a room of one content, gives the same answer and leaves the same bytes.
+abbrev pub SameAnswer : (List ℕ → List ℕ → List ℕ → Answer → Type 0) → Type 0
+SameAnswer P =
+    (s t room x y : List ℕ) (a b : Answer) (r q : Sheet) → readSheet s ≡ kept r → readSheet t ≡ kept q → Respelled r q
+    → P s room x a → P t room y b → (a ≡ b) × (x ≡ y)
+
+abbrev pub BothSameAnswer : Type 0
+BothSameAnswer =
+    (s t room clean x y u v : List ℕ) (a b : Answers) (r q : Sheet) → readSheet s ≡ kept r → readSheet t ≡ kept q → Respelled r q
+    → BothPromise s room x clean u a → BothPromise t room y clean v b → (a ≡ b) × (x ≡ y) × (u ≡ v)
+
+-- dealers-guard: "A dealer wrote `(boat|!boat)` and got `false`". A move with such a guard, of whatever feature, is `must` if a valid product makes it.
+abbrev pub DealersGuard : Type 0
+DealersGuard =
+    (r : Sheet) (m : Move) (f p : ℕ) → m .guard ≡ chain disj (single (feature f)) (neg (feature f)) → Least _≤_ (MadeIn r m) p → JudgedAs _≤_ r m (Must p)
 
 -- depth-is-small: "The depth is never more than 63."
 abbrev pub DepthIsSmall : Type 0

@@ -15,7 +15,7 @@ lessBytes [] (y ∷ ys) = true
 lessBytes (x ∷ xs) [] = false
 lessBytes (x ∷ xs) (y ∷ ys) = ltb x y || (eqb x y && lessBytes xs ys)
 
--- ---- rows: line, from, the action's place in the text, the place behind it, to, and whether the guard is written `1`
+-- ---- rows: line, from, the action's place in the text, the place behind it, to
 
 abbrev pub rowKey : List ℕ → List ℕ → List ℕ
 rowKey s row = getD row 1 0 ∷ getD row 4 0 ∷ pieceOf s (getD row 2 0) (getD row 3 0)

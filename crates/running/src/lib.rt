@@ -2,7 +2,7 @@
 // name takes it to the ends of that name's moves which the product makes from where it stands, and it keeps
 // its place from one action to the next. Of a sheet it knows what the reader promises, and nothing else.
 ghost use mathlib.Core.Path.{_≡_};
-ghost use Prim.Native.Nat.{ℕ, min};
+ghost use Prim.Native.Nat.{min};
 ghost use Rattle.text.specs.Text.{Wrote};
 ghost use Rattle.refusals.specs.Refusal.{refusal};
 ghost use Rattle.running.specs.Promise.{called, nowhere, SetsUp, Acts};

@@ -74,8 +74,8 @@ const LINE_END: u8 = 10;
 
 // Reads the sheet `text` into the six tables: for each feature the name's place and the place behind
 // it; the set of valid products; for each move its line, from, the action's place and the place behind
-// it, to, and 1 if its guard is written `1`, with the guard's set beside; for each stop its line and
-// state, with the guard's set beside. Where it refuses, every table is blank.
+// it, and to, with the guard's set beside; for each stop its line and state, with the guard's set beside.
+// Where it refuses, every table is blank.
 pub fn read_sheet(
     text: &[u8],
     names: &mut [[usize; 2]; 10],

@@ -2,7 +2,7 @@
 // looked through from the last back; those of moves only where the triple's place has a mark.
 ghost use mathlib.Core.Path.{_≡_};
 ghost use mathlib.Core.List.{List};
-ghost use Prim.Native.Nat.{ℕ, _+_, _*_, _%_, _<_, min};
+ghost use Prim.Native.Nat.{_+_, _*_, _%_, _<_, min};
 ghost use lib.ListN.{length, getD};
 ghost use Rattle.sheet.specs.Sheet.{Move, Stop};
 ghost use Rattle.sheet.specs.Reading.{isMove, moved, stopped};

@@ -1,6 +1,6 @@
 -- The judges' answers, a law for each return: what a search found, said of the sets that were judged. Assumes nothing.
 use mathlib.Core.Path.{_≡_}
-use mathlib.Core.Bool.{Bool, true, false}
+use mathlib.Core.Bool.{Bool, true}
 use mathlib.Core.List.{List, []}
 use Prim.Native.Nat.{ℕ, _<_, _≤_, min}
 use Rattle.products.specs.declared.Found.{Found}
