@@ -23,7 +23,7 @@ use Rattle.guards.specs.Guard.{Guard, never, holds, print, Declared, nesting}
 use Rattle.guards.specs.Reading.{Outcome, took, faulty, number, readWhole, GoodNames}
 use Rattle.guards.proofs.Exactly.{whole-exactly, whole-faulty}
 use Rattle.sheet.specs.Sheet.{Feature, Move, Stop, Sheet, names, isValid}
-use Rattle.sheet.specs.Reading.{State, Answer, kept, refused, refuseIf, stated, guarded, goOn, isKnown, moved, stopped, editionWord, ftsLine, featureLine, validLine, startLine, guardedMove, moveLine, stopLine, kindIn, byKind, byWord, readLine, none, ended, readLines, nothing, last, readSheet}
+use Rattle.sheet.specs.Reading.{State, Answer, kept, refused, refuseIf, placeBehind, stated, guarded, goOn, isKnown, moved, stopped, featureWord, validWord, startWord, moveWord, stopWord, editionWord, ftsLine, featureLine, validLine, startLine, guardedMove, moveLine, stopLine, kindIn, byKind, byWord, readLine, none, ended, readLines, nothing, last, readSheet}
 use Rattle.sheet.specs.Accepted.{GoodGuard, GoodMove, GoodMoves, GoodStop, GoodStops, Accepted}
 use Rattle.sheet.proofs.Rows.{names-length}
 use Rattle.sheet.proofs.LineKinds.{by-kind}
@@ -52,25 +52,25 @@ Told P a = Tells (λ q. InTable (q .number)) P a
 
 -- ---- what each test tells
 
-pub told-if : {A : Type 0} {R : Refusal → Type 0} {P : A → Type 0} {a : Answer A} (e n : ℕ) (t : Bool) → R (refusal e n) → (t ≡ false → Tells R P a)
-    → Tells R P (refuseIf t e n a)
-told-if e n true h f = refuses h
-told-if e n false h f = f refl
+pub told-if : {A : Type 0} {R : Refusal → Type 0} {P : A → Type 0} {a : Answer A} (q : Refusal) (t : Bool) → R q → (t ≡ false → Tells R P a)
+    → Tells R P (refuseIf t q a)
+told-if q true h f = refuses h
+told-if q false h f = f refl
 
-pub told-state : {P : State → Type 0} {k : ℕ → Answer State} (n : ℕ) (x : List ℕ) → ((q : ℕ) → q ≤ 63 → x ≡ decimal q → Told P (k q))
-    → Told P (stated n (readState x) k)
-told-state {P} {k} n x f = go (readState x) refl
+pub told-state : {P : State → Type 0} {k : ℕ → Answer State} (n p : ℕ) (x : List ℕ) → ((q : ℕ) → q ≤ 63 → x ≡ decimal q → Told P (k q))
+    → Told P (stated n p (readState x) k)
+told-state {P} {k} n p x f = go (readState x) refl
   where
-    go : (o : Number) → readState x ≡ o → Told P (stated n o k)
+    go : (o : Number) → readState x ≡ o → Told P (stated n p o k)
     go Bad e = refuses refl
     go (Of q) e = f q (state-small x e) (state-written x e)
 
-pub told-guard : {P : State → Type 0} {k : Guard → Answer State} (n : ℕ) (fs : List Feature) (x : List ℕ)
+pub told-guard : {P : State → Type 0} {k : Guard → Answer State} (n p : ℕ) (fs : List Feature) (x : List ℕ)
     → ((g : Guard) → GoodGuard (length fs) g → x ≡ print g (names fs) [] → Told P (k g))
-    → Told P (guarded n (readWhole (names fs) x) k)
-told-guard {P} {k} n fs x f = go (readWhole (names fs) x) refl
+    → Told P (guarded n p x (readWhole (names fs) x) k)
+told-guard {P} {k} n p fs x f = go (readWhole (names fs) x) refl
   where
-    go : (o : Outcome) → readWhole (names fs) x ≡ o → Told P (guarded n o k)
+    go : (o : Outcome) → readWhole (names fs) x ≡ o → Told P (guarded n p x o k)
     go (faulty e bs) q =
         let h = whole-faulty (names fs) x q in
         let i : InTable e = rw (le-leb 1 e (omega (arith, h .0)), le-leb e 10 (omega (arith, h .1))) in
@@ -106,7 +106,7 @@ module _ (n at : ℕ) (st : State) (sound : Sound st) where
   fts-told : st .section ≤ 1 → (x : One) → Told Sound (ftsLine n st x)
   unfolding ftsLine
   fts-told h notOne = refuses refl
-  fts-told h (only x) = told-if 3 n (not (sameBytes x editionWord)) refl (λ t. keeps (record { early = λ l. sound .early h; limits = sound .limits }))
+  fts-told h (only x) = told-if (refusal 3 n 0) (not (sameBytes x editionWord)) refl (λ t. keeps (record { early = λ l. sound .early h; limits = sound .limits }))
 
   feature-told : st .section ≤ 1 → (x : One) → Told Sound (featureLine n at st x)
   unfolding featureLine names
@@ -114,9 +114,9 @@ module _ (n at : ℕ) (st : State) (sound : Sound st) where
   feature-told h (only x) =
       let e = sound .early h in
       let l = sound .limits in
-      told-if 8 n (leb 10 (length (st .sheet .features))) refl
-      (λ few. told-if 4 n (not (isName x)) refl
-      (λ good. told-if 9 n (isKnown (number (names (st .sheet .features)) x)) refl
+      told-if (refusal 8 n 0) (leb 10 (length (st .sheet .features))) refl
+      (λ few. told-if (refusal 4 n (placeBehind (featureWord ∷ []))) (not (isName x)) refl
+      (λ good. told-if (refusal 9 n (placeBehind (featureWord ∷ []))) (isKnown (number (names (st .sheet .features)) x)) refl
       (λ new. keeps (record {
         early = λ u. e;
         limits = record {
@@ -135,7 +135,7 @@ module _ (n at : ℕ) (st : State) (sound : Sound st) where
   valid-told notOne = refuses refl
   valid-told (only x) =
       let l = sound .limits in
-      told-guard n (st .sheet .features) x
+      told-guard n (placeBehind (validWord ∷ [])) (st .sheet .features) x
       (λ g good text. keeps (record {
         early = λ u. absurd (omega arith);
         limits = record { few-features = l .few-features; names = l .names; valid = good; start = l .start; few-moves = l .few-moves; moves = l .moves; stops = l .stops };
@@ -146,7 +146,7 @@ module _ (n at : ℕ) (st : State) (sound : Sound st) where
   start-told notOne = refuses refl
   start-told (only x) =
       let l = sound .limits in
-      told-state n x
+      told-state n (placeBehind (startWord ∷ [])) x
       (λ q small text. keeps (record {
         early = λ u. absurd (omega arith);
         limits = record { few-features = l .few-features; names = l .names; valid = l .valid; start = small; few-moves = l .few-moves; moves = l .moves; stops = l .stops };
@@ -157,12 +157,12 @@ module _ (n at : ℕ) (st : State) (sound : Sound st) where
   move-told notFour = refuses refl
   move-told (four f a t g) =
       let l = sound .limits in
-      told-if 8 n (leb 256 (length (st .sheet .moves))) refl
-      (λ few. told-state n f
-      (λ from lf ef. told-if 4 n (not (isAction a)) refl
-      (λ act. told-state n t
-      (λ to lt et. told-guard n (st .sheet .features) g
-      (λ guard good eg. told-if 9 n (moved from a to (st .sheet .moves)) refl
+      told-if (refusal 8 n 0) (leb 256 (length (st .sheet .moves))) refl
+      (λ few. told-state n (placeBehind (moveWord ∷ [])) f
+      (λ from lf ef. told-if (refusal 4 n (placeBehind (moveWord ∷ f ∷ []))) (not (isAction a)) refl
+      (λ act. told-state n (placeBehind (moveWord ∷ f ∷ a ∷ [])) t
+      (λ to lt et. told-guard n (placeBehind (moveWord ∷ f ∷ a ∷ t ∷ [])) (st .sheet .features) g
+      (λ guard good eg. told-if (refusal 9 n (placeBehind (moveWord ∷ []))) (moved from a to (st .sheet .moves)) refl
       (λ new. keeps (record {
         early = λ u. absurd (omega arith);
         limits = record {
@@ -181,9 +181,9 @@ module _ (n at : ℕ) (st : State) (sound : Sound st) where
   stop-told notTwo = refuses refl
   stop-told (two q g) =
       let l = sound .limits in
-      told-state n q
-      (λ state small es. told-guard n (st .sheet .features) g
-      (λ guard good eg. told-if 9 n (stopped state (st .sheet .stops)) refl
+      told-state n (placeBehind (stopWord ∷ [])) q
+      (λ state small es. told-guard n (placeBehind (stopWord ∷ q ∷ [])) (st .sheet .features) g
+      (λ guard good eg. told-if (refusal 9 n (placeBehind (stopWord ∷ []))) (stopped state (st .sheet .stops)) refl
       (λ new. keeps (record {
         early = λ u. absurd (omega arith);
         limits = record {
@@ -217,8 +217,8 @@ ended-told : (n : ℕ) (st : State) → Sound st → Told Accepted (ended n st)
 unfolding ended
 ended-told n st sound =
     let l = sound .limits in
-    told-if 3 n (ltb (st .section) 3) refl
-    (λ t. told-if 10 (st .validLine) (none (isValid (st .sheet)) (2 ^ length (st .sheet .features))) refl
+    told-if (refusal 3 n 0) (ltb (st .section) 3) refl
+    (λ t. told-if (refusal 10 (st .validLine) 0) (none (isValid (st .sheet)) (2 ^ length (st .sheet .features))) refl
     (λ found. keeps (record {
       few-features = l .few-features;
       names = l .names;
@@ -238,8 +238,8 @@ lines-told (l ∷ ls) n at st sound = told-on (word-told n at st sound (fields l
 sheet-told : (s : List ℕ) → Told Accepted (readSheet s)
 unfolding readSheet names
 sheet-told s =
-    told-if 1 0 (ltb 65536 (length s)) refl
-    (λ few. told-if 2 0 (not (eqb (last 0 s) 10)) refl
+    told-if (refusal 1 0 0) (ltb 65536 (length s)) refl
+    (λ few. told-if (refusal 2 0 0) (not (eqb (last 0 s) 10)) refl
     (λ ends. lines-told (lines s) 1 0 nothing
     (record {
       early = λ u. (refl, refl, refl);

@@ -3,11 +3,11 @@
 use mathlib.Core.Path.{_≡_, refl, sym, ap, subst, _∙_}
 use mathlib.Core.Bool.{Bool, true, false, not}
 use mathlib.Core.List.{List, [], _∷_}
-use Prim.Native.Nat.{ℕ, _+_, _≤_, _<_, min}
+use Prim.Native.Nat.{ℕ, _+_, _-_, _≤_, _<_, min}
 use native.Mathlib.Omega.{arith}
 use borrow.Author.Tests.{not-true, not-false, le-leb, lt-leb}
 use lib.Dec.{leb}
-use lib.ListN.{length, drop, set, length-set}
+use lib.ListN.{length, drop, set, length-set, length-drop}
 use Rattle.products.specs.declared.Found.{Found}
 use Rattle.products.specs.declared.Found.the-variants.{At, Nothing}
 use Rattle.refusals.specs.declared.Refusal.{Refusal}
@@ -25,7 +25,7 @@ use Rattle.sheet.specs.declared.Progress.{Progress}
 use Rattle.sheet.specs.declared.LineRead.{LineRead}
 use Rattle.sheet.specs.declared.LineRead.the-variants.{Kept, Refused}
 use Rattle.sheet.specs.Sheet.{Feature, Move, Stop, names}
-use Rattle.sheet.specs.Reading.{State, Answer, kept, refused, editionWord, guarded, keep, withFeature, withValid, withStart, ftsLine, featureLine, validLine, startLine}
+use Rattle.sheet.specs.Reading.{State, Answer, kept, refused, placeBehind, featureWord, validWord, startWord, editionWord, guarded, keep, withFeature, withValid, withStart, ftsLine, featureLine, validLine, startLine}
 use Rattle.sheet.specs.Tables.{Tables, tables, Lies, Filled}
 use Rattle.sheet.specs.Inside.{Stands, Says}
 use Rattle.sheet.proofs.Rows.{rows-length, table-put, names-of}
@@ -48,11 +48,11 @@ module _ (l : List ℕ) (o : Bool) (h : IsOne l o) where
 module _ (l : List ℕ) (o : Bool) (h : IsOne l o) (n : ℕ) (st : State) {s : List ℕ} {T : Tables} {seen : List ℕ} where
   -- ---- `fts`
 
-  pub fts-wrong : {r : LineRead} → not o ≡ true → r ≡ Refused (refusal 3 n) → Says s T seen r (ftsLine n st (asOne (fields l)))
+  pub fts-wrong : {r : LineRead} → not o ≡ true → r ≡ Refused (refusal 3 n 0) → Says s T seen r (ftsLine n st (asOne (fields l)))
   unfolding ftsLine
   fts-wrong e z = refuses z (ap (ftsLine n st) (not-one l o h e))
 
-  pub fts-other : {y : Bool} {r : LineRead} → not o ≡ false → y ≡ sameBytes l editionWord → not y ≡ true → r ≡ Refused (refusal 3 n)
+  pub fts-other : {y : Bool} {r : LineRead} → not o ≡ false → y ≡ sameBytes l editionWord → not y ≡ true → r ≡ Refused (refusal 3 n 0)
       → Says s T seen r (ftsLine n st (asOne (fields l)))
   unfolding ftsLine
   fts-other {y} e k t z =
@@ -69,11 +69,11 @@ module _ (l : List ℕ) (o : Bool) (h : IsOne l o) (n : ℕ) (st : State) {s : L
 
   -- ---- `start`
 
-  pub start-wrong : {r : LineRead} → not o ≡ true → r ≡ Refused (refusal 3 n) → Says s T seen r (startLine n st (asOne (fields l)))
+  pub start-wrong : {r : LineRead} → not o ≡ true → r ≡ Refused (refusal 3 n 0) → Says s T seen r (startLine n st (asOne (fields l)))
   unfolding startLine
   start-wrong e z = refuses z (ap (startLine n st) (not-one l o h e))
 
-  pub start-bad : {q : Number} {r : LineRead} → not o ≡ false → q ≡ Bad → q ≡ readState l → r ≡ Refused (refusal 4 n) → Says s T seen r (startLine n st (asOne (fields l)))
+  pub start-bad : {q : Number} {r : LineRead} → not o ≡ false → q ≡ Bad → q ≡ readState l → r ≡ Refused (refusal 4 n (placeBehind (startWord ∷ []))) → Says s T seen r (startLine n st (asOne (fields l)))
   unfolding startLine
   start-bad e b k z =
       let f : readState l ≡ Bad = sym k ∙ b in
@@ -96,6 +96,10 @@ names-stand {s} {T} {c} so =
     let e : min (c .features) 10 ≡ c .features = omega arith in
     ap (namesOf s (T .names)) e ∙ names-of s (T .names) (so .filled .names .rows)
 
+-- the place at which a guard is refused is one of its field, or the field's end
+pub refused-within : (x : List ℕ) (rd : GuardRead) (gs : List ℕ) (a : Outcome) {e p : ℕ} → Reads x 0 rd gs a → rd ≡ guard.Refused e p → p ≤ length x
+refused-within x rd gs a h q = reads-as x 0 gs a q h .0
+
 -- so a guard that is read over the table's names is read over the features' names
 pub guard-stands : {s : List ℕ} {T : Tables} {seen : List ℕ} {c : Progress} {st : State} (x : List ℕ) (rd : GuardRead) (gs : List ℕ) → Stands s T seen c st
     → Reads x 0 rd gs (readWhole (namesOf s (T .names) (min (c .features) 10)) x) → Reads x 0 rd gs (readWhole (names (st .sheet .features)) x)
@@ -109,24 +113,28 @@ pub filled-still : {s : List ℕ} {nm : List (List ℕ)} {v w : List ℕ} {m g t
     → Filled s (tables nm v m g t d) i j k fs ms ds → Filled s (tables nm w m g t d) i j k fs ms ds
 filled-still h = record { ten = h .ten; names = h .names; moves = h .moves; moveGuards = h .moveGuards; stops = h .stops; stopGuards = h .stopGuards }
 
-module _ (n : ℕ) (ns : List (List ℕ)) (x : List ℕ) (rd : GuardRead) (set : List ℕ) (h : Reads x 0 rd set (readWhole ns x)) (k : Guard → Answer State) where
-  pub guard-refused : {e p : ℕ} → rd ≡ guard.Refused e p → guarded n (readWhole ns x) k ≡ refused (refusal e n)
-  guard-refused e = ap (λ (a : Outcome). guarded n a k) (reads-as x 0 set (readWhole ns x) e h .1)
+module _ (n u : ℕ) (ns : List (List ℕ)) (x : List ℕ) (rd : GuardRead) (set : List ℕ) (h : Reads x 0 rd set (readWhole ns x)) (k : Guard → Answer State) where
+  -- the guard's place is behind the field's first byte by as many bytes as stand before the fault
+  pub guard-refused : {e p : ℕ} → rd ≡ guard.Refused e p → guarded n u x (readWhole ns x) k ≡ refused (refusal e n (u + p))
+  guard-refused {e} {p} q =
+      let y = reads-as x 0 set (readWhole ns x) q h in
+      let z : length x - length (drop p x) ≡ p = omega (arith, y .0, length-drop p x) in
+      ap (λ (a : Outcome). guarded n u x a k) (y .1) ∙ ap (λ (i : ℕ). refused (refusal e n (u + i))) z
 
-  pub guard-taken : {p : ℕ} → rd ≡ guard.Upto p → (g : Guard) × (readWhole ns x ≡ took g (drop p x)) × Means set g × (guarded n (readWhole ns x) k ≡ k g)
+  pub guard-taken : {p : ℕ} → rd ≡ guard.Upto p → (g : Guard) × (readWhole ns x ≡ took g (drop p x)) × Means set g × (guarded n u x (readWhole ns x) k ≡ k g)
   guard-taken e =
       let y = reads-as x 0 set (readWhole ns x) e h in
-      (y .0, y .3, y .4, ap (λ (a : Outcome). guarded n a k) (y .3))
+      (y .0, y .3, y .4, ap (λ (a : Outcome). guarded n u x a k) (y .3))
 
 -- ---- `feature`
 
 module _ (l : List ℕ) (o : Bool) (h : IsOne l o) (n at : ℕ) (st : State) {s : List ℕ} where
-  pub feature-wrong : {T : Tables} {seen : List ℕ} {r : LineRead} → not o ≡ true → r ≡ Refused (refusal 3 n) → Says s T seen r (featureLine n at st (asOne (fields l)))
+  pub feature-wrong : {T : Tables} {seen : List ℕ} {r : LineRead} → not o ≡ true → r ≡ Refused (refusal 3 n 0) → Says s T seen r (featureLine n at st (asOne (fields l)))
   unfolding featureLine
   feature-wrong e z = refuses z (ap (featureLine n at st) (not-one l o h e))
 
   module _ (e : not o ≡ false) {T : Tables} {seen : List ℕ} {c : Progress} (so : Stands s T seen c st) where
-    pub feature-full : {r : LineRead} → 10 ≤ c .features → r ≡ Refused (refusal 8 n) → Says s T seen r (featureLine n at st (asOne (fields l)))
+    pub feature-full : {r : LineRead} → 10 ≤ c .features → r ≡ Refused (refusal 8 n 0) → Says s T seen r (featureLine n at st (asOne (fields l)))
     unfolding featureLine
     feature-full m z =
         let few = features-counted so in
@@ -136,7 +144,7 @@ module _ (l : List ℕ) (o : Bool) (h : IsOne l o) (n at : ℕ) (st : State) {s 
       few : leb 10 (length (st .sheet .features)) ≡ false
       few = let z = features-counted so in lt-leb 10 (length (st .sheet .features)) (omega arith)
 
-      pub feature-bad : {y : Bool} {r : LineRead} → y ≡ isName l → not y ≡ true → r ≡ Refused (refusal 4 n) → Says s T seen r (featureLine n at st (asOne (fields l)))
+      pub feature-bad : {y : Bool} {r : LineRead} → y ≡ isName l → not y ≡ true → r ≡ Refused (refusal 4 n (placeBehind (featureWord ∷ []))) → Says s T seen r (featureLine n at st (asOne (fields l)))
       unfolding featureLine
       feature-bad {y} k t z =
           let f : isName l ≡ false = sym k ∙ not-true y t in
@@ -149,7 +157,7 @@ module _ (l : List ℕ) (o : Bool) (h : IsOne l o) (n at : ℕ) (st : State) {s 
         here : number (names (st .sheet .features)) l ≡ f
         here = ap (λ (ns : List (List ℕ)). number ns l) (sym (names-stand so)) ∙ sym q
 
-        pub feature-repeat : {i : ℕ} {r : LineRead} → f ≡ At i → r ≡ Refused (refusal 9 n) → Says s T seen r (featureLine n at st (asOne (fields l)))
+        pub feature-repeat : {i : ℕ} {r : LineRead} → f ≡ At i → r ≡ Refused (refusal 9 n (placeBehind (featureWord ∷ []))) → Says s T seen r (featureLine n at st (asOne (fields l)))
         unfolding featureLine
         feature-repeat a z = refuses z (ap (featureLine n at st) (is-one l o h e) ∙ rw (few, good, here, a))
 
@@ -188,15 +196,15 @@ feature-kept l o h n at st e so few k t q a lies =
 -- ---- `valid`
 
 module _ (l : List ℕ) (o : Bool) (h : IsOne l o) (n : ℕ) (st : State) {s : List ℕ} where
-  pub valid-wrong : {T : Tables} {seen : List ℕ} {r : LineRead} → not o ≡ true → r ≡ Refused (refusal 3 n) → Says s T seen r (validLine n st (asOne (fields l)))
+  pub valid-wrong : {T : Tables} {seen : List ℕ} {r : LineRead} → not o ≡ true → r ≡ Refused (refusal 3 n 0) → Says s T seen r (validLine n st (asOne (fields l)))
   unfolding validLine
   valid-wrong e z = refuses z (ap (validLine n st) (not-one l o h e))
 
   module _ (e : not o ≡ false) (rd : GuardRead) (x : List ℕ) {nm : List (List ℕ)} {v : List ℕ} {m g t d : List (List ℕ)} {seen : List ℕ} {c : Progress}
       (so : Stands s (tables nm v m g t d) seen c st) (q : Reads l 0 rd x (readWhole (namesOf s nm (min (c .features) 10)) l)) where
-    pub valid-refused : {T : Tables} {i p : ℕ} {r : LineRead} → rd ≡ guard.Refused i p → r ≡ Refused (refusal i n) → Says s T seen r (validLine n st (asOne (fields l)))
+    pub valid-refused : {T : Tables} {i p : ℕ} {r : LineRead} → rd ≡ guard.Refused i p → r ≡ Refused (refusal i n (placeBehind (validWord ∷ []) + p)) → Says s T seen r (validLine n st (asOne (fields l)))
     unfolding validLine
-    valid-refused a z = refuses z (ap (validLine n st) (is-one l o h e) ∙ guard-refused n (names (st .sheet .features)) l rd x (guard-stands l rd x so q) _ a)
+    valid-refused a z = refuses z (ap (validLine n st) (is-one l o h e) ∙ guard-refused n (placeBehind (validWord ∷ [])) (names (st .sheet .features)) l rd x (guard-stands l rd x so q) _ a)
 
     pub valid-kept : {p : ℕ} → rd ≡ guard.Upto p
         → Says s (tables nm x m g t d) seen
@@ -204,7 +212,7 @@ module _ (l : List ℕ) (o : Bool) (h : IsOne l o) (n : ℕ) (st : State) {s : L
         (validLine n st (asOne (fields l)))
     unfolding validLine
     valid-kept a =
-        let y = guard-taken n (names (st .sheet .features)) l rd x (guard-stands l rd x so q) (λ k. keep 2 n (withValid (st .sheet) k)) a in
+        let y = guard-taken n (placeBehind (validWord ∷ [])) (names (st .sheet .features)) l rd x (guard-stands l rd x so q) (λ k. keep 2 n (withValid (st .sheet) k)) a in
         keeps (ap (validLine n st) (is-one l o h e) ∙ y .3)
         (record {
           section = refl;

@@ -29,7 +29,7 @@ use Rattle.sheet.specs.declared.LineRead.the-variants.{Kept, Refused}
 use Rattle.sheet.specs.declared.Triple.{Triple}
 use Rattle.sheet.specs.declared.Triple.the-variants as triple
 use Rattle.sheet.specs.Sheet.{Move, Stop, names}
-use Rattle.sheet.specs.Reading.{State, Answer, refuseIf, guarded, moved, stopped, keep, withMove, withStop, guardedMove, moveLine, stopLine}
+use Rattle.sheet.specs.Reading.{State, Answer, refuseIf, placeBehind, guarded, moved, stopped, moveWord, stopWord, keep, withMove, withStop, guardedMove, moveLine, stopLine}
 use Rattle.sheet.specs.Tables.{Tables, tables, Lies, Rows, MoveRow, StopRow}
 use Rattle.sheet.specs.Inside.{Tells, Marked, TripledIn, Tripled, Stands, Says}
 use Rattle.sheet.proofs.Rows.{rows-length, table-put}
@@ -54,18 +54,18 @@ lies-part {s} {l} {at} b e h k m =
 
 -- ---- `move`: the guard, the repeat and the row
 
-module _ (n : ℕ) (st : State) (from : ℕ) (action : List ℕ) (place to : ℕ) (x : List ℕ) (rd : GuardRead) (gs : List ℕ)
+module _ (n u : ℕ) (st : State) (from : ℕ) (action : List ℕ) (place to : ℕ) (x : List ℕ) (rd : GuardRead) (gs : List ℕ)
     {s : List ℕ} {nm : List (List ℕ)} {v : List ℕ} {m g t d : List (List ℕ)} {seen : List ℕ} {c : Progress}
     (so : Stands s (tables nm v m g t d) seen c st) (q : Reads x 0 rd gs (readWhole (namesOf s nm (min (c .features) 10)) x)) where
-  pub move-refused : {T : Tables} {i p : ℕ} {r : LineRead} → rd ≡ guard.Refused i p → r ≡ Refused (refusal i n) → Says s T seen r (guardedMove n st from action place to x)
+  pub move-refused : {T : Tables} {i p : ℕ} {r : LineRead} → rd ≡ guard.Refused i p → r ≡ Refused (refusal i n (u + p)) → Says s T seen r (guardedMove n u st from action place to x)
   unfolding guardedMove
-  move-refused a z = refuses z (guard-refused n (names (st .sheet .features)) x rd gs (guard-stands x rd gs so q) _ a)
+  move-refused a z = refuses z (guard-refused n u (names (st .sheet .features)) x rd gs (guard-stands x rd gs so q) _ a)
 
   module _ {p : ℕ} (a : rd ≡ guard.Upto p) {y : Bool} {seen′ : List ℕ}
       (has : (ms : List Move) → Rows (λ i k. MoveRow s (getD m i []) k) (min (c .moves) (length m)) ms → Marked seen ms → Tells seen′ from action to ms y) where
     after : Guard → Answer State
     after k =
-        refuseIf (moved from action to (st .sheet .moves)) 9 n
+        refuseIf (moved from action to (st .sheet .moves)) (refusal 9 n (placeBehind (moveWord ∷ [])))
         (keep 3 (st .validLine) (withMove (st .sheet) (record { line = n; from = from; action = action; place = place; to = to; guard = k })))
 
     repeats : Tells seen′ from action to (st .sheet .moves) y
@@ -74,19 +74,19 @@ module _ (n : ℕ) (st : State) (from : ℕ) (action : List ℕ) (place to : ℕ
         let e : min (c .moves) (length m) ≡ c .moves = omega arith in
         has (st .sheet .moves) (rw e (so .filled .moves .rows)) (so .marked)
 
-    pub move-repeat : {T : Tables} {r : LineRead} → y ≡ true → r ≡ Refused (refusal 9 n) → Says s T seen′ r (guardedMove n st from action place to x)
+    pub move-repeat : {T : Tables} {r : LineRead} → y ≡ true → r ≡ Refused (refusal 9 n (placeBehind (moveWord ∷ []))) → Says s T seen′ r (guardedMove n u st from action place to x)
     unfolding guardedMove after
     move-repeat e z =
-        let w = guard-taken n (names (st .sheet .features)) x rd gs (guard-stands x rd gs so q) after a in
+        let w = guard-taken n u (names (st .sheet .features)) x rd gs (guard-stands x rd gs so q) after a in
         refuses z (w .3 ∙ rw (sym (repeats .is) ∙ e))
 
     pub move-kept : y ≡ false → c .moves < 256 → c .moves < length m → c .moves < length g → Lies s action place
         → Says s (tables nm v (set m (c .moves) (n ∷ from ∷ place ∷ (place + length action) ∷ to ∷ [])) (set g (c .moves) gs) t d) seen′
         (Kept (record { section = 3; valid = c .valid; features = c .features; start = c .start; moves = c .moves + 1; stops = c .stops }))
-        (guardedMove n st from action place to x)
+        (guardedMove n u st from action place to x)
     unfolding guardedMove after
     move-kept e few mine yours lies =
-        let w = guard-taken n (names (st .sheet .features)) x rd gs (guard-stands x rd gs so q) after a in
+        let w = guard-taken n u (names (st .sheet .features)) x rd gs (guard-stands x rd gs so q) after a in
         keeps (w .3 ∙ rw (sym (repeats .is) ∙ e))
         (record {
           section = refl;
@@ -109,28 +109,28 @@ module _ (n : ℕ) (st : State) (from : ℕ) (action : List ℕ) (place to : ℕ
 
 -- ---- `move`: from, action and to
 
-module _ (f a t : List ℕ) where
-  pub triple-from : {o : Number} → o ≡ Bad → o ≡ readState f → Tripled f a t triple.Bad
+module _ (u v : ℕ) (f a t : List ℕ) where
+  pub triple-from : {o : Number} → o ≡ Bad → o ≡ readState f → Tripled u v f a t (triple.Bad (placeBehind (moveWord ∷ [])))
   triple-from e g = let y : readState f ≡ Bad = sym g ∙ e in record { is = λ n k. rw y }
 
   module _ {o : Number} {from : ℕ} (e : o ≡ Of from) (g : o ≡ readState f) where
     source : readState f ≡ Of from
     source = sym g ∙ e
 
-    pub triple-action : {b : Bool} → b ≡ isAction a → not b ≡ true → Tripled f a t triple.Bad
+    pub triple-action : {b : Bool} → b ≡ isAction a → not b ≡ true → Tripled u v f a t (triple.Bad u)
     triple-action {b} h i = let y : isAction a ≡ false = sym h ∙ not-true b i in record { is = λ n k. rw (source, y) }
 
     module _ {b : Bool} (h : b ≡ isAction a) (i : not b ≡ false) where
       good : isAction a ≡ true
       good = sym h ∙ not-false b i
 
-      pub triple-to : {p : Number} → p ≡ Bad → p ≡ readState t → Tripled f a t triple.Bad
+      pub triple-to : {p : Number} → p ≡ Bad → p ≡ readState t → Tripled u v f a t (triple.Bad v)
       triple-to j q = let y : readState t ≡ Bad = sym q ∙ j in record { is = λ n k. rw (source, good, y) }
 
-      pub triple-good : {p : Number} {to : ℕ} → p ≡ Of to → p ≡ readState t → Tripled f a t (triple.Good from to)
+      pub triple-good : {p : Number} {to : ℕ} → p ≡ Of to → p ≡ readState t → Tripled u v f a t (triple.Good from to)
       triple-good {to = to} j q = let y : readState t ≡ Of to = sym q ∙ j in record { is = λ n k. rw (source, good, y) }
 
-tripled-as : {f a t : List ℕ} {x y : Triple} → Tripled f a t x → x ≡ y → TripledIn f a t y
+tripled-as : {u v : ℕ} {f a t : List ℕ} {x y : Triple} → Tripled u v f a t x → x ≡ y → TripledIn u v f a t y
 tripled-as q e = rw e at (q .is)
 
 -- ---- `move`: the fields
@@ -138,8 +138,20 @@ tripled-as q e = rw e at (q .is)
 pub ends-of : (l : List ℕ) {cut : FourFields} {b m d : ℕ} → cut ≡ Ends b m d → CutsFour l cut → CutsFour l (Ends b m d)
 ends-of l e h = subst (CutsFour l) e h
 
--- the action stands in the sheet behind the from field
+-- the action stands in the sheet behind the from field, and each field in its line behind those before it
 module _ (l : List ℕ) {cut : FourFields} {b m d : ℕ} (e : cut ≡ Ends b m d) (h : CutsFour l cut) where
+  action-place : placeBehind (moveWord ∷ part l 0 b ∷ []) ≡ 6 + b + 1
+  action-place = let i = ends-of l e h in omega (arith, part-length l 0 b (omega arith))
+
+  to-place : placeBehind (moveWord ∷ part l 0 b ∷ part l (b + 1) m ∷ []) ≡ 6 + m + 1
+  to-place = let i = ends-of l e h in omega (arith, part-length l 0 b (omega arith), part-length l (b + 1) m (omega arith))
+
+  guard-place : placeBehind (moveWord ∷ part l 0 b ∷ part l (b + 1) m ∷ part l (m + 1) d ∷ []) ≡ 6 + d + 1
+  guard-place = let i = ends-of l e h in omega (arith, part-length l 0 b (omega arith), part-length l (b + 1) m (omega arith), part-length l (m + 1) d (omega arith))
+
+  pub guard-fits : (at n : ℕ) → at + length l ≤ n → 6 + d + 1 + length (part l (d + 1) (length l)) ≤ n + 6
+  guard-fits at n k = let i = ends-of l e h in omega (arith, part-length l (d + 1) (length l) (omega arith))
+
   pub action-fits : (at n : ℕ) → at + length l ≤ n → at + b + 1 + length (part l (b + 1) m) ≤ n
   action-fits at n k = let i = ends-of l e h in omega (arith, part-length l (b + 1) m (omega arith))
 
@@ -150,7 +162,7 @@ module _ (l : List ℕ) {cut : FourFields} {b m d : ℕ} (e : cut ≡ Ends b m d
       subst (Lies s (part l (b + 1) m)) z (lies-part (b + 1) m k (omega arith) (omega arith))
 
 module _ (l : List ℕ) (n at : ℕ) (st : State) {s : List ℕ} where
-  pub move-wrong : {T : Tables} {seen : List ℕ} {cut : FourFields} {r : LineRead} → cut ≡ NotFour → CutsFour l cut → r ≡ Refused (refusal 3 n) → Says s T seen r (moveLine n at st (asFour (fields l)))
+  pub move-wrong : {T : Tables} {seen : List ℕ} {cut : FourFields} {r : LineRead} → cut ≡ NotFour → CutsFour l cut → r ≡ Refused (refusal 3 n 0) → Says s T seen r (moveLine n at st (asFour (fields l)))
   unfolding moveLine
   move-wrong e h z = refuses z (ap (moveLine n at st) (subst (CutsFour l) e h))
 
@@ -161,7 +173,7 @@ module _ (l : List ℕ) (n at : ℕ) (st : State) {s : List ℕ} where
     counted : length (st .sheet .moves) ≡ c .moves
     counted = rows-length (so .filled .moves .rows)
 
-    pub move-full : {r : LineRead} → 256 ≤ c .moves → r ≡ Refused (refusal 8 n) → Says s T seen r (moveLine n at st (asFour (fields l)))
+    pub move-full : {r : LineRead} → 256 ≤ c .moves → r ≡ Refused (refusal 8 n 0) → Says s T seen r (moveLine n at st (asFour (fields l)))
     unfolding moveLine
     move-full k z = let y = counted in refuses z (rw (cuts, le-leb 256 (length (st .sheet .moves)) (omega arith)))
 
@@ -169,27 +181,31 @@ module _ (l : List ℕ) (n at : ℕ) (st : State) {s : List ℕ} where
       few : leb 256 (length (st .sheet .moves)) ≡ false
       few = let y = counted in lt-leb 256 (length (st .sheet .moves)) (omega arith)
 
-      module _ {o : Triple} (q : Tripled (part l 0 b) (part l (b + 1) m) (part l (m + 1) d) o) where
-        pub move-bad : {r : LineRead} → o ≡ triple.Bad → r ≡ Refused (refusal 4 n) → Says s T seen r (moveLine n at st (asFour (fields l)))
+      module _ {o : Triple} (q : Tripled (6 + b + 1) (6 + m + 1) (part l 0 b) (part l (b + 1) m) (part l (m + 1) d) o) where
+        pub move-bad : {p : ℕ} {r : LineRead} → o ≡ triple.Bad p → r ≡ Refused (refusal 4 n p) → Says s T seen r (moveLine n at st (asFour (fields l)))
         unfolding moveLine
-        move-bad f z = refuses z (rw (cuts, few) (tripled-as q f n _))
+        move-bad f z = refuses z (rw (cuts, few, action-place l e h, to-place l e h) (tripled-as q f n _))
 
         pub move-on : {from to : ℕ} {T′ : Tables} {seen′ : List ℕ} {r : LineRead} → o ≡ triple.Good from to
-            → Says s T′ seen′ r (guardedMove n st from (part l (b + 1) m) (at + b + 1) to (part l (d + 1) (length l)))
+            → Says s T′ seen′ r (guardedMove n (6 + d + 1) st from (part l (b + 1) m) (at + b + 1) to (part l (d + 1) (length l)))
             → Says s T′ seen′ r (moveLine n at st (asFour (fields l)))
         unfolding moveLine
         move-on f w =
             let i = ends-of l e h in
             let j : at + length (part l 0 b) + 1 ≡ at + b + 1 = omega (arith, part-length l 0 b (omega arith)) in
-            rw (cuts, few, j, tripled-as q f n (λ x y. guardedMove n st x (part l (b + 1) m) (at + b + 1) y (part l (d + 1) (length l)))) w
+            rw (cuts, few, j, action-place l e h, to-place l e h, guard-place l e h, tripled-as q f n (λ x y. guardedMove n (6 + d + 1) st x (part l (b + 1) m) (at + b + 1) y (part l (d + 1) (length l)))) w
 
 -- ---- `stop`
 
 pub parted-of : (l : List ℕ) {cut : TwoFields} {b : ℕ} → cut ≡ Parted b → CutsTwo l cut → CutsTwo l (Parted b)
 parted-of l e h = subst (CutsTwo l) e h
 
+-- a place in the second field is a place in both
+pub second-fits : (l : List ℕ) {cut : TwoFields} {b p : ℕ} → cut ≡ Parted b → CutsTwo l cut → p ≤ length (part l (b + 1) (length l)) → b + 1 + p ≤ length l
+second-fits l {b = b} e h k = let i = parted-of l e h in omega (arith, part-length l (b + 1) (length l) (omega arith))
+
 module _ (l : List ℕ) (n : ℕ) (st : State) where
-  pub stop-wrong : {s : List ℕ} {T : Tables} {seen : List ℕ} {cut : TwoFields} {r : LineRead} → cut ≡ NotTwo → CutsTwo l cut → r ≡ Refused (refusal 3 n) → Says s T seen r (stopLine n st (asTwo (fields l)))
+  pub stop-wrong : {s : List ℕ} {T : Tables} {seen : List ℕ} {cut : TwoFields} {r : LineRead} → cut ≡ NotTwo → CutsTwo l cut → r ≡ Refused (refusal 3 n 0) → Says s T seen r (stopLine n st (asTwo (fields l)))
   unfolding stopLine
   stop-wrong e h z = refuses z (ap (stopLine n st) (subst (CutsTwo l) e h))
 
@@ -197,7 +213,7 @@ module _ (l : List ℕ) (n : ℕ) (st : State) where
     halves : asTwo (fields l) ≡ two (part l 0 b) (part l (b + 1) (length l))
     halves = parted-of l e h .1
 
-    pub stop-state : {s : List ℕ} {T : Tables} {seen : List ℕ} {q : Number} {r : LineRead} → q ≡ Bad → q ≡ readState (part l 0 b) → r ≡ Refused (refusal 4 n) → Says s T seen r (stopLine n st (asTwo (fields l)))
+    pub stop-state : {s : List ℕ} {T : Tables} {seen : List ℕ} {q : Number} {r : LineRead} → q ≡ Bad → q ≡ readState (part l 0 b) → r ≡ Refused (refusal 4 n (placeBehind (stopWord ∷ []))) → Says s T seen r (stopLine n st (asTwo (fields l)))
     unfolding stopLine
     stop-state f1 g1 z = let y : readState (part l 0 b) ≡ Bad = sym g1 ∙ f1 in refuses z (rw (halves, y))
 
@@ -215,14 +231,17 @@ module _ (l : List ℕ) (n : ℕ) (st : State) where
       told = guard-stands (part l (b + 1) (length l)) rd gs so k
 
       then : Guard → Answer State
-      then z = refuseIf (stopped w (st .sheet .stops)) 9 n (keep 4 (st .validLine) (withStop (st .sheet) (record { line = n; state = w; guard = z })))
+      then z = refuseIf (stopped w (st .sheet .stops)) (refusal 9 n (placeBehind (stopWord ∷ []))) (keep 4 (st .validLine) (withStop (st .sheet) (record { line = n; state = w; guard = z })))
 
-      begins : stopLine n st (asTwo (fields l)) ≡ guarded n (readWhole (names (st .sheet .features)) x) then
+      begins : stopLine n st (asTwo (fields l)) ≡ guarded n (6 + b + 1) x (readWhole (names (st .sheet .features)) x) then
       unfolding stopLine x then
-      begins = rw (halves, stopping)
+      begins =
+          let i = parted-of l e h in
+          let z : placeBehind (stopWord ∷ part l 0 b ∷ []) ≡ 6 + b + 1 = omega (arith, part-length l 0 b (omega arith)) in
+          rw (halves, stopping, z)
 
-      pub stop-refused : {i p : ℕ} {r : LineRead} → rd ≡ guard.Refused i p → r ≡ Refused (refusal i n) → Says s (tables nm v m g t d) seen r (stopLine n st (asTwo (fields l)))
-      stop-refused a z = refuses z (begins ∙ guard-refused n (names (st .sheet .features)) x rd gs told then a)
+      pub stop-refused : {i p : ℕ} {r : LineRead} → rd ≡ guard.Refused i p → r ≡ Refused (refusal i n (6 + b + 1 + p)) → Says s (tables nm v m g t d) seen r (stopLine n st (asTwo (fields l)))
+      stop-refused a z = refuses z (begins ∙ guard-refused n (6 + b + 1) (names (st .sheet .features)) x rd gs told then a)
 
       module _ {p : ℕ} (a : rd ≡ guard.Upto p) {y : Bool}
           (has : (ds : List Stop) → Rows (λ i z. StopRow (getD t i []) z) (min (c .stops) (length t)) ds → y ≡ stopped w ds) where
@@ -232,10 +251,10 @@ module _ (l : List ℕ) (n : ℕ) (st : State) where
             let z : min (c .stops) (length t) ≡ c .stops = omega arith in
             has (st .sheet .stops) (rw z (so .filled .stops .rows))
 
-        pub stop-repeat : {r : LineRead} → y ≡ true → r ≡ Refused (refusal 9 n) → Says s (tables nm v m g t d) seen r (stopLine n st (asTwo (fields l)))
+        pub stop-repeat : {r : LineRead} → y ≡ true → r ≡ Refused (refusal 9 n (placeBehind (stopWord ∷ []))) → Says s (tables nm v m g t d) seen r (stopLine n st (asTwo (fields l)))
         unfolding then
         stop-repeat i z =
-            let u = guard-taken n (names (st .sheet .features)) x rd gs told then a in
+            let u = guard-taken n (6 + b + 1) (names (st .sheet .features)) x rd gs told then a in
             refuses z (begins ∙ u .3 ∙ rw (sym comes ∙ i))
 
         -- a state that has not come leaves a row free
@@ -255,7 +274,7 @@ module _ (l : List ℕ) (n : ℕ) (st : State) where
             (Kept u) (stopLine n st (asTwo (fields l)))
         unfolding then
         stop-kept i mine yours f =
-            let z = guard-taken n (names (st .sheet .features)) x rd gs told then a in
+            let z = guard-taken n (6 + b + 1) (names (st .sheet .features)) x rd gs told then a in
             let small = state-small (part l 0 b) stopping in
             rw f
             (keeps (begins ∙ z .3 ∙ rw (sym comes ∙ i))

@@ -9,6 +9,7 @@ use borrow.Author.Tests.{ltb-false}
 use lib.Dec.{eqb, leb, ltb}
 use lib.ListN.{length}
 use Rattle.refusals.specs.declared.Refusal.{Refusal}
+use Rattle.refusals.specs.Refusal.{refusal}
 use Rattle.fields.specs.declared.Number.{Number}
 use Rattle.fields.specs.declared.Number.the-variants.{Of, Bad}
 use Rattle.fields.specs.Bytes.{sameBytes, isName, isAction, readState}
@@ -18,7 +19,7 @@ use Rattle.guards.specs.Reading.{Outcome, took, faulty, number}
 use Rattle.sheet.specs.declared.LineKind.{LineKind}
 use Rattle.sheet.specs.declared.LineKind.the-variants as kind
 use Rattle.sheet.specs.Sheet.{Sheet, names, isValid}
-use Rattle.sheet.specs.Reading.{State, Answer, kept, refused, stated, guarded, isKnown, moved, stopped, editionWord, ftsLine, featureLine, guardIn, validLine, startLine, guardedMove, moveLine, stopLine, kindIn, byKind, byWord, readLine, none, ended, readLines, nothing, last, readSheet}
+use Rattle.sheet.specs.Reading.{State, Answer, kept, refused, placeBehind, stated, guarded, isKnown, moved, stopped, featureWord, validWord, startWord, moveWord, stopWord, editionWord, ftsLine, featureLine, guardIn, validLine, startLine, guardedMove, moveLine, stopLine, kindIn, byKind, byWord, readLine, none, ended, readLines, nothing, last, readSheet}
 use Rattle.sheet.specs.Numbered.{MovesTo, StopsTo, LinesTo}
 use Rattle.sheet.proofs.Accepted.{Tells, keeps, refuses, told-kept, told-refused, told-if, told-on}
 
@@ -26,15 +27,15 @@ use Rattle.sheet.proofs.Accepted.{Tells, keeps, refuses, told-kept, tol
 abbrev Numbered : {A : Type 0} → (A → Type 0) → ℕ → Answer A → Type 0
 Numbered P b a = Tells (λ q. q .line ≤ b) P a
 
-numbered-state : {P : State → Type 0} {b : ℕ} {k : ℕ → Answer State} (n : ℕ) (o : Number) → n ≤ b → ((q : ℕ) → Numbered P b (k q))
-    → Numbered P b (stated n o k)
-numbered-state n Bad h f = refuses h
-numbered-state n (Of q) h f = f q
+numbered-state : {P : State → Type 0} {b : ℕ} {k : ℕ → Answer State} (n p : ℕ) (o : Number) → n ≤ b → ((q : ℕ) → Numbered P b (k q))
+    → Numbered P b (stated n p o k)
+numbered-state n p Bad h f = refuses h
+numbered-state n p (Of q) h f = f q
 
-numbered-guard : {P : State → Type 0} {b : ℕ} {k : Guard → Answer State} (n : ℕ) (o : Outcome) → n ≤ b → ((g : Guard) → Numbered P b (k g))
-    → Numbered P b (guarded n o k)
-numbered-guard n (faulty e bs) h f = refuses h
-numbered-guard n (took g rest) h f = f g
+numbered-guard : {P : State → Type 0} {b : ℕ} {k : Guard → Answer State} (n p : ℕ) (x : List ℕ) (o : Outcome) → n ≤ b → ((g : Guard) → Numbered P b (k g))
+    → Numbered P b (guarded n p x o k)
+numbered-guard n p x (faulty e bs) h f = refuses h
+numbered-guard n p x (took g rest) h f = f g
 
 -- ---- one line, and the end
 
@@ -48,46 +49,46 @@ module _ (b n : ℕ) (h : n ≤ b) (st : State) (old : StateTo b st) where
   fts-numbered : (x : One) → Numbered (StateTo b) b (ftsLine n st x)
   unfolding ftsLine
   fts-numbered notOne = refuses h
-  fts-numbered (only x) = told-if 3 n (not (sameBytes x editionWord)) h (λ t. keeps (record { valid = old .valid; moves = old .moves; stops = old .stops }))
+  fts-numbered (only x) = told-if (refusal 3 n 0) (not (sameBytes x editionWord)) h (λ t. keeps (record { valid = old .valid; moves = old .moves; stops = old .stops }))
 
   feature-numbered : (at : ℕ) (x : One) → Numbered (StateTo b) b (featureLine n at st x)
   unfolding featureLine
   feature-numbered at notOne = refuses h
   feature-numbered at (only x) =
-      told-if 8 n (leb 10 (length (st .sheet .features))) h
-      (λ few. told-if 4 n (not (isName x)) h
-      (λ good. told-if 9 n (isKnown (number (names (st .sheet .features)) x)) h
+      told-if (refusal 8 n 0) (leb 10 (length (st .sheet .features))) h
+      (λ few. told-if (refusal 4 n (placeBehind (featureWord ∷ []))) (not (isName x)) h
+      (λ good. told-if (refusal 9 n (placeBehind (featureWord ∷ []))) (isKnown (number (names (st .sheet .features)) x)) h
       (λ new. keeps (record { valid = old .valid; moves = old .moves; stops = old .stops }))))
 
   valid-numbered : (x : One) → Numbered (StateTo b) b (validLine n st x)
   unfolding validLine
   valid-numbered notOne = refuses h
-  valid-numbered (only x) = numbered-guard n (guardIn st x) h (λ g. keeps (record { valid = h; moves = old .moves; stops = old .stops }))
+  valid-numbered (only x) = numbered-guard n (placeBehind (validWord ∷ [])) x (guardIn st x) h (λ g. keeps (record { valid = h; moves = old .moves; stops = old .stops }))
 
   start-numbered : (x : One) → Numbered (StateTo b) b (startLine n st x)
   unfolding startLine
   start-numbered notOne = refuses h
-  start-numbered (only x) = numbered-state n (readState x) h (λ q. keeps (record { valid = old .valid; moves = old .moves; stops = old .stops }))
+  start-numbered (only x) = numbered-state n (placeBehind (startWord ∷ [])) (readState x) h (λ q. keeps (record { valid = old .valid; moves = old .moves; stops = old .stops }))
 
   move-numbered : (at : ℕ) (x : Four) → Numbered (StateTo b) b (moveLine n at st x)
   unfolding moveLine guardedMove
   move-numbered at notFour = refuses h
   move-numbered at (four f a t g) =
-      told-if 8 n (leb 256 (length (st .sheet .moves))) h
-      (λ few. numbered-state n (readState f) h
-      (λ from. told-if 4 n (not (isAction a)) h
-      (λ act. numbered-state n (readState t) h
-      (λ to. numbered-guard n (guardIn st g) h
-      (λ guard. told-if 9 n (moved from a to (st .sheet .moves)) h
+      told-if (refusal 8 n 0) (leb 256 (length (st .sheet .moves))) h
+      (λ few. numbered-state n (placeBehind (moveWord ∷ [])) (readState f) h
+      (λ from. told-if (refusal 4 n (placeBehind (moveWord ∷ f ∷ []))) (not (isAction a)) h
+      (λ act. numbered-state n (placeBehind (moveWord ∷ f ∷ a ∷ [])) (readState t) h
+      (λ to. numbered-guard n (placeBehind (moveWord ∷ f ∷ a ∷ t ∷ [])) g (guardIn st g) h
+      (λ guard. told-if (refusal 9 n (placeBehind (moveWord ∷ []))) (moved from a to (st .sheet .moves)) h
       (λ new. keeps (record { valid = old .valid; moves = (h, old .moves); stops = old .stops })))))))
 
   stop-numbered : (x : Two) → Numbered (StateTo b) b (stopLine n st x)
   unfolding stopLine
   stop-numbered notTwo = refuses h
   stop-numbered (two q g) =
-      numbered-state n (readState q) h
-      (λ state. numbered-guard n (guardIn st g) h
-      (λ guard. told-if 9 n (stopped state (st .sheet .stops)) h
+      numbered-state n (placeBehind (stopWord ∷ [])) (readState q) h
+      (λ state. numbered-guard n (placeBehind (stopWord ∷ q ∷ [])) g (guardIn st g) h
+      (λ guard. told-if (refusal 9 n (placeBehind (stopWord ∷ []))) (stopped state (st .sheet .stops)) h
       (λ new. keeps (record { valid = old .valid; moves = old .moves; stops = (h, old .stops) }))))
 
   kind-numbered : (at : ℕ) (fs : List (List ℕ)) (k : LineKind) → Numbered (StateTo b) b (byKind k n at st fs)
@@ -106,8 +107,8 @@ module _ (b n : ℕ) (h : n ≤ b) (st : State) (old : StateTo b st) where
   ended-numbered : Numbered (LinesTo b) b (ended n st)
   unfolding ended
   ended-numbered =
-      told-if 3 n (ltb (st .section) 3) h
-      (λ t. told-if 10 (st .validLine) (none (isValid (st .sheet)) (2 ^ length (st .sheet .features))) (old .valid)
+      told-if (refusal 3 n 0) (ltb (st .section) 3) h
+      (λ t. told-if (refusal 10 (st .validLine) 0) (none (isValid (st .sheet)) (2 ^ length (st .sheet .features))) (old .valid)
       (λ found. keeps (record { moves = old .moves; stops = old .stops })))
 
 -- ---- all lines
@@ -132,8 +133,8 @@ lines-few (b ∷ s) = omega (arith, onto-few (eqb b 10) b (lines s), lines-few s
 sheet-numbered : (s : List ℕ) → Numbered (LinesTo 65537) 65537 (readSheet s)
 unfolding readSheet
 sheet-numbered s =
-    told-if 1 0 (ltb 65536 (length s)) (omega arith)
-    (λ few. told-if 2 0 (not (eqb (last 0 s) 10)) (omega arith)
+    told-if (refusal 1 0 0) (ltb 65536 (length s)) (omega arith)
+    (λ few. told-if (refusal 2 0 0) (not (eqb (last 0 s) 10)) (omega arith)
     (λ ends. lines-numbered 65537 (lines s) 1 0 nothing (omega (arith, lines-few s, ltb-false 65536 (length s) few))
     (record { valid = omega arith; moves = tt; stops = tt })))
 

@@ -8,13 +8,14 @@ use native.Mathlib.Omega.{arith}
 use borrow.Author.Tests.{eqb-true, ltb-false, not-false}
 use lib.Dec.{eqb, leb, ltb}
 use lib.ListN.{length}
+use Rattle.refusals.specs.Refusal.{refusal}
 use Rattle.fields.specs.Bytes.{sameBytes, isName, isAction}
 use Rattle.fields.specs.Cutting.{lines, fields, join, close, One, only, notOne, Two, two, notTwo, Four, four, notFour, asOne, asTwo, asFour}
 use Rattle.fields.proofs.Cuts.{join-fields, close-lines}
 use Rattle.fields.proofs.Same.{same-true}
 use Rattle.guards.specs.Reading.{number}
 use Rattle.sheet.specs.Sheet.{Sheet, names, isValid}
-use Rattle.sheet.specs.Reading.{State, Answer, kept, isKnown, moved, stopped, ftsWord, featureWord, validWord, startWord, moveWord, stopWord, editionWord, ftsLine, featureLine, validLine, startLine, guardedMove, moveLine, stopLine, kindIn, byKind, byWord, readLine, none, ended, readLines, nothing, last, readSheet}
+use Rattle.sheet.specs.Reading.{State, Answer, kept, placeBehind, isKnown, moved, stopped, ftsWord, featureWord, validWord, startWord, moveWord, stopWord, editionWord, ftsLine, featureLine, validLine, startLine, guardedMove, moveLine, stopLine, kindIn, byKind, byWord, readLine, none, ended, readLines, nothing, last, readSheet}
 use Rattle.sheet.proofs.LineKinds.{by-kind}
 use Rattle.sheet.proofs.Accepted.{Told, keeps, refuses, told-kept, told-if, told-state, told-guard, told-on}
 use Rattle.sheet.specs.Spelling.{Fields, ftsFields, featureFields, validFields, startFields, moveFields, stopFields, featureRow, moveRow, stopRow, inOrder, rowsOf, joined, textOf, Alike}
@@ -86,7 +87,7 @@ module _ (n at : ℕ) (st : State) (old : Ordered st) (l w : List ℕ) (fs : Fie
   unfolding ftsLine inOrder
   fts-follows e ew =
       by-one (λ o. Told (Follows st l) (ftsLine n st o)) fs (refuses refl)
-      (λ x ef. told-if 3 n (not (sameBytes x editionWord)) refl
+      (λ x ef. told-if (refusal 3 n 0) (not (sameBytes x editionWord)) refl
       (λ t. keeps (record {
         row = ftsFields;
         is = is ∙ rw (ew, ef, same-true x editionWord (not-false (sameBytes x editionWord) t));
@@ -98,9 +99,9 @@ module _ (n at : ℕ) (st : State) (old : Ordered st) (l w : List ℕ) (fs : Fie
   unfolding featureLine inOrder
   feature-follows e ew =
       by-one (λ o. Told (Follows st l) (featureLine n at st o)) fs (refuses refl)
-      (λ x ef. told-if 8 n (leb 10 (length (st .sheet .features))) refl
-      (λ few. told-if 4 n (not (isName x)) refl
-      (λ good. told-if 9 n (isKnown (number (names (st .sheet .features)) x)) refl
+      (λ x ef. told-if (refusal 8 n 0) (leb 10 (length (st .sheet .features))) refl
+      (λ few. told-if (refusal 4 n (placeBehind (featureWord ∷ []))) (not (isName x)) refl
+      (λ good. told-if (refusal 9 n (placeBehind (featureWord ∷ []))) (isKnown (number (names (st .sheet .features)) x)) refl
       (λ new. keeps (record {
         row = featureFields x;
         is = is ∙ rw (ew, ef);
@@ -112,7 +113,7 @@ module _ (n at : ℕ) (st : State) (old : Ordered st) (l w : List ℕ) (fs : Fie
   unfolding validLine
   valid-follows e ew =
       by-one (λ o. Told (Follows st l) (validLine n st o)) fs (refuses refl)
-      (λ x ef. told-guard n (st .sheet .features) x
+      (λ x ef. told-guard n (placeBehind (validWord ∷ [])) (st .sheet .features) x
       (λ g good eg. keeps (record {
         row = validFields (names (st .sheet .features)) g;
         is = is ∙ rw (ew, ef, eg);
@@ -124,7 +125,7 @@ module _ (n at : ℕ) (st : State) (old : Ordered st) (l w : List ℕ) (fs : Fie
   unfolding startLine inOrder
   start-follows e ew =
       by-one (λ o. Told (Follows st l) (startLine n st o)) fs (refuses refl)
-      (λ x ef. told-state n x
+      (λ x ef. told-state n (placeBehind (startWord ∷ [])) x
       (λ q small eq. keeps (record {
         row = startFields q;
         is = is ∙ rw (ew, ef, eq);
@@ -136,12 +137,12 @@ module _ (n at : ℕ) (st : State) (old : Ordered st) (l w : List ℕ) (fs : Fie
   unfolding moveLine guardedMove inOrder
   move-follows e ew =
       by-four (λ o. Told (Follows st l) (moveLine n at st o)) fs (refuses refl)
-      (λ f a t g ef. told-if 8 n (leb 256 (length (st .sheet .moves))) refl
-      (λ few. told-state n f
-      (λ from lf ff. told-if 4 n (not (isAction a)) refl
-      (λ act. told-state n t
-      (λ to lt et. told-guard n (st .sheet .features) g
-      (λ guard good eg. told-if 9 n (moved from a to (st .sheet .moves)) refl
+      (λ f a t g ef. told-if (refusal 8 n 0) (leb 256 (length (st .sheet .moves))) refl
+      (λ few. told-state n (placeBehind (moveWord ∷ [])) f
+      (λ from lf ff. told-if (refusal 4 n (placeBehind (moveWord ∷ f ∷ []))) (not (isAction a)) refl
+      (λ act. told-state n (placeBehind (moveWord ∷ f ∷ a ∷ [])) t
+      (λ to lt et. told-guard n (placeBehind (moveWord ∷ f ∷ a ∷ t ∷ [])) (st .sheet .features) g
+      (λ guard good eg. told-if (refusal 9 n (placeBehind (moveWord ∷ []))) (moved from a to (st .sheet .moves)) refl
       (λ new. keeps (record {
         row = moveFields (names (st .sheet .features)) from a to guard;
         is = is ∙ rw (ew, ef, ff, et, eg);
@@ -153,9 +154,9 @@ module _ (n at : ℕ) (st : State) (old : Ordered st) (l w : List ℕ) (fs : Fie
   unfolding stopLine inOrder
   stop-follows h ew =
       by-two (λ o. Told (Follows st l) (stopLine n st o)) fs (refuses refl)
-      (λ q g ef. told-state n q
-      (λ state small es. told-guard n (st .sheet .features) g
-      (λ guard good eg. told-if 9 n (stopped state (st .sheet .stops)) refl
+      (λ q g ef. told-state n (placeBehind (stopWord ∷ [])) q
+      (λ state small es. told-guard n (placeBehind (stopWord ∷ q ∷ [])) (st .sheet .features) g
+      (λ guard good eg. told-if (refusal 9 n (placeBehind (stopWord ∷ []))) (stopped state (st .sheet .stops)) refl
       (λ new. keeps (record {
         row = stopFields (names (st .sheet .features)) state guard;
         is = is ∙ rw (ew, ef, es, eg);
@@ -191,8 +192,8 @@ told-keep f (refuses h) = refuses h
 rest-lines : (ls : List (List ℕ)) (n at : ℕ) (st : State) → Ordered st → Told (Rest st ls) (readLines n at st ls)
 unfolding readLines readLine ended joined
 rest-lines [] n at st old =
-    told-if 3 n (ltb (st .section) 3) refl
-    (λ late. told-if 10 (st .validLine) (none (isValid (st .sheet)) (2 ^ length (st .sheet .features))) refl
+    told-if (refusal 3 n 0) (ltb (st .section) 3) refl
+    (λ late. told-if (refusal 10 (st .validLine) 0) (none (isValid (st .sheet)) (2 ^ length (st .sheet .features))) refl
     (λ found. keeps (record { rows = []; are = refl; all = rows-late (st .section) (st .sheet) [] (ltb-false (st .section) 3 late) (old .stops) })))
 rest-lines (l ∷ ls) n at st old =
     told-on (word-follows n at st old l (fields l) (sym (join-fields l)))
@@ -218,8 +219,8 @@ pub record SpelledAs (s : List ℕ) (r : Sheet) : Type 0 where
 sheet-spelled : (s : List ℕ) → Told (SpelledAs s) (readSheet s)
 unfolding readSheet textOf
 sheet-spelled s =
-    told-if 1 0 (ltb 65536 (length s)) refl
-    (λ few. told-if 2 0 (not (eqb (last 0 s) 10)) refl
+    told-if (refusal 1 0 0) (ltb 65536 (length s)) refl
+    (λ few. told-if (refusal 2 0 0) (not (eqb (last 0 s) 10)) refl
     (λ ends. let ten = eqb-true (last 0 s) 10 (not-false (eqb (last 0 s) 10) ends) in
     told-keep
     (λ r t. record { is = sym (closed s ten) ∙ ap close (t .are) ∙ ap (λ (rows : List Fields). close (joined rows)) (t .all); short = ltb-false 65536 (length s) few })

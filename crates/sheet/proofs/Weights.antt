@@ -8,13 +8,14 @@ use native.Mathlib.Omega.{arith}
 use borrow.Author.Tests.{not-false}
 use lib.Dec.{eqb, leb}
 use lib.ListN.{length}
+use Rattle.refusals.specs.Refusal.{refusal}
 use Rattle.fields.specs.Bytes.{sameBytes, isName, isAction, readState}
 use Rattle.fields.specs.Cutting.{onto, cut, fields, One, only, notOne, asOne, asTwo, asFour}
 use Rattle.values.proofs.Names.{action-names}
 use Rattle.guards.specs.Guard.{Guard}
 use Rattle.guards.specs.Reading.{number, readGuard, readWhole}
 use Rattle.sheet.specs.Sheet.{Feature, Sheet, names}
-use Rattle.sheet.specs.Reading.{State, Answer, kept, stated, guarded, isKnown, moved, stopped, editionWord, ftsLine, featureLine, validLine, startLine, guardedMove, moveLine, stopLine, kindIn, byKind, byWord, readLine}
+use Rattle.sheet.specs.Reading.{State, Answer, kept, placeBehind, stated, guarded, isKnown, moved, stopped, featureWord, validWord, startWord, moveWord, stopWord, editionWord, ftsLine, featureLine, validLine, startLine, guardedMove, moveLine, stopLine, kindIn, byKind, byWord, readLine}
 use Rattle.sheet.proofs.LineKinds.{by-kind}
 use Rattle.sheet.proofs.Accepted.{Told, keeps, refuses, told-kept, told-if, told-state, told-guard}
 
@@ -37,16 +38,16 @@ fields-size (b ∷ l) = let y = fields-size l in omega (arith, onto-size (eqb b 
 -- ---- a state and a guard have a byte at least
 
 module _ {P : State → Type 0} where
-  some-state : {k : ℕ → Answer State} (n : ℕ) (x : List ℕ) → ((q : ℕ) → 1 ≤ length x → Told P (k q)) → Told P (stated n (readState x) k)
+  some-state : {k : ℕ → Answer State} (n p : ℕ) (x : List ℕ) → ((q : ℕ) → 1 ≤ length x → Told P (k q)) → Told P (stated n p (readState x) k)
   unfolding readState
-  some-state n [] f = refuses refl
-  some-state n (b ∷ x) f = told-state n (b ∷ x) (λ q small text. f q (omega arith))
+  some-state n p [] f = refuses refl
+  some-state n p (b ∷ x) f = told-state n p (b ∷ x) (λ q small text. f q (omega arith))
 
-  some-guard : {k : Guard → Answer State} (n : ℕ) (fs : List Feature) (x : List ℕ) → ((g : Guard) → 1 ≤ length x → Told P (k g))
-      → Told P (guarded n (readWhole (names fs) x) k)
+  some-guard : {k : Guard → Answer State} (n p : ℕ) (fs : List Feature) (x : List ℕ) → ((g : Guard) → 1 ≤ length x → Told P (k g))
+      → Told P (guarded n p x (readWhole (names fs) x) k)
   unfolding readWhole readGuard
-  some-guard n fs [] f = refuses refl
-  some-guard n fs (b ∷ x) f = told-guard n fs (b ∷ x) (λ g good text. f g (omega arith))
+  some-guard n p fs [] f = refuses refl
+  some-guard n p fs (b ∷ x) f = told-guard n p fs (b ∷ x) (λ g good text. f g (omega arith))
 
 -- ---- what the moves and stops weigh
 
@@ -60,25 +61,25 @@ module _ (n at : ℕ) (st : State) (k : ℕ) where
   fts-weighs : (x : One) → Told (Weighs (weight (st .sheet) + k)) (ftsLine n st x)
   unfolding ftsLine
   fts-weighs notOne = refuses refl
-  fts-weighs (only x) = told-if 3 n (not (sameBytes x editionWord)) refl (λ t. keeps (record { is = omega arith }))
+  fts-weighs (only x) = told-if (refusal 3 n 0) (not (sameBytes x editionWord)) refl (λ t. keeps (record { is = omega arith }))
 
   feature-weighs : (x : One) → Told (Weighs (weight (st .sheet) + k)) (featureLine n at st x)
   unfolding featureLine
   feature-weighs notOne = refuses refl
   feature-weighs (only x) =
-      told-if 8 n (leb 10 (length (st .sheet .features))) refl
-      (λ few. told-if 4 n (not (isName x)) refl
-      (λ good. told-if 9 n (isKnown (number (names (st .sheet .features)) x)) refl (λ new. keeps (record { is = omega arith }))))
+      told-if (refusal 8 n 0) (leb 10 (length (st .sheet .features))) refl
+      (λ few. told-if (refusal 4 n (placeBehind (featureWord ∷ []))) (not (isName x)) refl
+      (λ good. told-if (refusal 9 n (placeBehind (featureWord ∷ []))) (isKnown (number (names (st .sheet .features)) x)) refl (λ new. keeps (record { is = omega arith }))))
 
   valid-weighs : (x : One) → Told (Weighs (weight (st .sheet) + k)) (validLine n st x)
   unfolding validLine
   valid-weighs notOne = refuses refl
-  valid-weighs (only x) = told-guard n (st .sheet .features) x (λ g good text. keeps (record { is = omega arith }))
+  valid-weighs (only x) = told-guard n (placeBehind (validWord ∷ [])) (st .sheet .features) x (λ g good text. keeps (record { is = omega arith }))
 
   start-weighs : (x : One) → Told (Weighs (weight (st .sheet) + k)) (startLine n st x)
   unfolding startLine
   start-weighs notOne = refuses refl
-  start-weighs (only x) = told-state n x (λ q small text. keeps (record { is = omega arith }))
+  start-weighs (only x) = told-state n (placeBehind (startWord ∷ [])) x (λ q small text. keeps (record { is = omega arith }))
 
   move-weighs : (fs : List (List ℕ)) → 5 + size fs ≤ k → Told (Weighs (weight (st .sheet) + k)) (moveLine n at st (asFour fs))
   unfolding moveLine guardedMove
@@ -87,12 +88,12 @@ module _ (n at : ℕ) (st : State) (k : ℕ) where
   move-weighs (f ∷ a ∷ []) h = refuses refl
   move-weighs (f ∷ a ∷ t ∷ []) h = refuses refl
   move-weighs (f ∷ a ∷ t ∷ g ∷ []) h =
-      told-if 8 n (leb 256 (length (st .sheet .moves))) refl
-      (λ few. some-state n f
-      (λ from lf. told-if 4 n (not (isAction a)) refl
-      (λ act. let la = action-names a (not-false (isAction a) act) .1 in some-state n t
-      (λ to lt. some-guard n (st .sheet .features) g
-      (λ guard lg. told-if 9 n (moved from a to (st .sheet .moves)) refl (λ new. keeps (record { is = omega arith })))))))
+      told-if (refusal 8 n 0) (leb 256 (length (st .sheet .moves))) refl
+      (λ few. some-state n (placeBehind (moveWord ∷ [])) f
+      (λ from lf. told-if (refusal 4 n (placeBehind (moveWord ∷ f ∷ []))) (not (isAction a)) refl
+      (λ act. let la = action-names a (not-false (isAction a) act) .1 in some-state n (placeBehind (moveWord ∷ f ∷ a ∷ [])) t
+      (λ to lt. some-guard n (placeBehind (moveWord ∷ f ∷ a ∷ t ∷ [])) (st .sheet .features) g
+      (λ guard lg. told-if (refusal 9 n (placeBehind (moveWord ∷ []))) (moved from a to (st .sheet .moves)) refl (λ new. keeps (record { is = omega arith })))))))
   move-weighs (f ∷ a ∷ t ∷ g ∷ x ∷ fs) h = refuses refl
 
   stop-weighs : (fs : List (List ℕ)) → 5 + size fs ≤ k → Told (Weighs (weight (st .sheet) + k)) (stopLine n st (asTwo fs))
@@ -100,9 +101,9 @@ module _ (n at : ℕ) (st : State) (k : ℕ) where
   stop-weighs [] h = refuses refl
   stop-weighs (q ∷ []) h = refuses refl
   stop-weighs (q ∷ g ∷ []) h =
-      some-state n q
-      (λ state lq. some-guard n (st .sheet .features) g
-      (λ guard lg. told-if 9 n (stopped state (st .sheet .stops)) refl (λ new. keeps (record { is = omega arith }))))
+      some-state n (placeBehind (stopWord ∷ [])) q
+      (λ state lq. some-guard n (placeBehind (stopWord ∷ q ∷ [])) (st .sheet .features) g
+      (λ guard lg. told-if (refusal 9 n (placeBehind (stopWord ∷ []))) (stopped state (st .sheet .stops)) refl (λ new. keeps (record { is = omega arith }))))
   stop-weighs (q ∷ g ∷ x ∷ fs) h = refuses refl
 
   kind-weighs : (w : List ℕ) (fs : List (List ℕ)) → suc (length w + size fs) ≤ k → Told (Weighs (weight (st .sheet) + k)) (byKind (kindIn (st .section) w) n at st fs)

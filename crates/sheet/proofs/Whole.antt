@@ -40,7 +40,7 @@ use Rattle.sheet.proofs.Weights.{line-weighs}
 -- ---- a line by its word
 
 -- no kind of line has one field only
-alone : (k : LineKind) (n at : ℕ) (st : State) → byKind k n at st [] ≡ refused (refusal 3 n)
+alone : (k : LineKind) (n at : ℕ) (st : State) → byKind k n at st [] ≡ refused (refusal 3 n 0)
 unfolding ftsLine featureLine validLine startLine moveLine stopLine
 alone Fts n at st = refl
 alone Feature n at st = refl
@@ -51,7 +51,7 @@ alone Stop n at st = refl
 alone Misplaced n at st = refl
 
 module _ (l : List ℕ) {w : ℕ} (h : FirstAt l 9 0 w) (n at : ℕ) (st : State) where
-  pub line-alone : length l ≤ w → readLine n at st l ≡ refused (refusal 3 n)
+  pub line-alone : length l ≤ w → readLine n at st l ≡ refused (refusal 3 n 0)
   unfolding readLine
   line-alone e = ap (byWord n at st) (cut-last h e) ∙ alone (kindIn (st .section) l) n (at + length l + 1) st
 
@@ -100,7 +100,7 @@ one-false false f = refl
 
 module _ {s : List ℕ} {nm : List (List ℕ)} {v : List ℕ} {m g t d : List (List ℕ)} {seen : List ℕ} {c : Progress} {st : State}
     (so : Stands s (tables nm v m g t d) seen c st) (n : ℕ) where
-  pub lacking : {T : Tables} {r : SheetRead} → c .section < 3 → r ≡ whole.Refused (refusal 3 n) → Ends s T r (ended n st)
+  pub lacking : {T : Tables} {r : SheetRead} → c .section < 3 → r ≡ whole.Refused (refusal 3 n 0) → Ends s T r (ended n st)
   unfolding ended
   lacking l z = let e = so .section in record { is = rw z (rw (lt-ltb (st .section) 3 (omega arith))) }
 
@@ -122,7 +122,7 @@ module _ {s : List ℕ} {nm : List (List ℕ)} {v : List ℕ} {m g t d : List (L
         let k : 2 ^ length (st .sheet .features) ≤ 2 ^ 10 = pow-mono {j = 10} (omega arith) in
         omega arith
 
-    pub no-product : {T : Tables} {r : SheetRead} → ((q : ℕ) → In y q → ⊥) → r ≡ whole.Refused (refusal 10 (c .valid)) → Ends s T r (ended n st)
+    pub no-product : {T : Tables} {r : SheetRead} → ((q : ℕ) → In y q → ⊥) → r ≡ whole.Refused (refusal 10 (c .valid) 0) → Ends s T r (ended n st)
     unfolding ended
     no-product k z =
         let i : (p : ℕ) → p < 2 ^ length (st .sheet .features) → isValid (st .sheet) p ≡ false =
@@ -274,11 +274,11 @@ all-blank p q r u = same-lent p q r u
 
 module _ (s : List ℕ) where
   -- what the length alone refuses
-  pub read-long : 65536 < length s → readSheet s ≡ refused (refusal 1 0)
+  pub read-long : 65536 < length s → readSheet s ≡ refused (refusal 1 0 0)
   unfolding readSheet
   read-long h = rw (lt-ltb 65536 (length s) h)
 
-  pub read-empty : length s ≡ 0 → readSheet s ≡ refused (refusal 2 0)
+  pub read-empty : length s ≡ 0 → readSheet s ≡ refused (refusal 2 0 0)
   unfolding readSheet
   read-empty h = rw (le-ltb 65536 (length s) (omega arith), last-none s h)
 
@@ -287,14 +287,14 @@ module _ (s : List ℕ) where
     blank-lent : Blank T → T ≡ blankTables m g t h
     blank-lent b = b ∙ rw (lent .moves, lent .moveGuards, lent .stops, lent .stopGuards)
 
-    pub sheet-long : {r : SheetRead} → Blank T → 65536 < length s → r ≡ whole.Refused (refusal 1 0) → ReadsSheet m g t h s T r
+    pub sheet-long : {r : SheetRead} → Blank T → 65536 < length s → r ≡ whole.Refused (refusal 1 0 0) → ReadsSheet m g t h s T r
     sheet-long b l z = rw z (read-long l, blank-lent b)
 
-    pub sheet-empty : {r : SheetRead} → Blank T → length s ≡ 0 → r ≡ whole.Refused (refusal 2 0) → ReadsSheet m g t h s T r
+    pub sheet-empty : {r : SheetRead} → Blank T → length s ≡ 0 → r ≡ whole.Refused (refusal 2 0 0) → ReadsSheet m g t h s T r
     sheet-empty b l z = rw z (read-empty l, blank-lent b)
 
     module _ (l : length s ≤ 65536) (some : length s ≡ 0 → ⊥) where
-      pub sheet-open : {r : SheetRead} → Blank T → (getD s (length s - 1) 0 ≡ 10 → ⊥) → r ≡ whole.Refused (refusal 2 0) → ReadsSheet m g t h s T r
+      pub sheet-open : {r : SheetRead} → Blank T → (getD s (length s - 1) 0 ≡ 10 → ⊥) → r ≡ whole.Refused (refusal 2 0 0) → ReadsSheet m g t h s T r
       unfolding readSheet
       sheet-open b e z = rw z (rw (le-ltb 65536 (length s) l, last-at 0 s (omega arith), ne-eqb (getD s (length s - 1) 0) 10 e), blank-lent b)
 

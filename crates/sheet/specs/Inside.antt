@@ -17,7 +17,7 @@ use Rattle.sheet.specs.declared.Triple.the-variants as triple
 use Rattle.sheet.specs.declared.SheetRead.{SheetRead}
 use Rattle.sheet.specs.declared.SheetRead.the-variants as whole
 use Rattle.sheet.specs.Sheet.{Move, Stop, Sheet}
-use Rattle.sheet.specs.Reading.{State, Answer, kept, refused, refuseIf, stated, moved, stopped}
+use Rattle.sheet.specs.Reading.{State, Answer, kept, refused, refuseIf, placeBehind, stated, moved, stopped, moveWord}
 use Rattle.sheet.specs.Tables.{Tables, Filled, StandsFor}
 
 -- ---- marks: 8,192 places, of which each triple of from, action and to has one; place h is bit h % 64 of word h / 64
@@ -67,16 +67,17 @@ SaysIn s T seen (line.Refused q) a = a ≡ refused q
 pub record Says (s : List ℕ) (T : Tables) (seen : List ℕ) (r : LineRead) (a : Answer State) : Type 0 where
   pub is : SaysIn s T seen r a
 
--- from, action and to of a move by 4, and what follows where they are good
-abbrev pub withTriple : ℕ → List ℕ → List ℕ → List ℕ → (ℕ → ℕ → Answer State) → Answer State
-withTriple n f a t k = stated n (readState f) (λ from. refuseIf (not (isAction a)) 4 n (stated n (readState t) (λ to. k from to)))
+-- from, action and to of a move by 4, of which the two last begin at places u and v, and what follows where they are good
+abbrev pub withTriple : ℕ → ℕ → ℕ → List ℕ → List ℕ → List ℕ → (ℕ → ℕ → Answer State) → Answer State
+withTriple n u v f a t k =
+    stated n (placeBehind (moveWord ∷ [])) (readState f) (λ from. refuseIf (not (isAction a)) (refusal 4 n u) (stated n v (readState t) (λ to. k from to)))
 
-abbrev pub TripledIn : List ℕ → List ℕ → List ℕ → Triple → Type 0
-TripledIn f a t (triple.Good from to) = (n : ℕ) (k : ℕ → ℕ → Answer State) → withTriple n f a t k ≡ k from to
-TripledIn f a t triple.Bad = (n : ℕ) (k : ℕ → ℕ → Answer State) → withTriple n f a t k ≡ refused (refusal 4 n)
+abbrev pub TripledIn : ℕ → ℕ → List ℕ → List ℕ → List ℕ → Triple → Type 0
+TripledIn u v f a t (triple.Good from to) = (n : ℕ) (k : ℕ → ℕ → Answer State) → withTriple n u v f a t k ≡ k from to
+TripledIn u v f a t (triple.Bad p) = (n : ℕ) (k : ℕ → ℕ → Answer State) → withTriple n u v f a t k ≡ refused (refusal 4 n p)
 
-pub record Tripled (f a t : List ℕ) (r : Triple) : Type 0 where
-  pub is : TripledIn f a t r
+pub record Tripled (u v : ℕ) (f a t : List ℕ) (r : Triple) : Type 0 where
+  pub is : TripledIn u v f a t r
 
 -- the answer at the end of the lines, with the tables as they are then, is this answer of the definition
 abbrev pub EndsIn : List ℕ → Tables → SheetRead → Answer Sheet → Type 0

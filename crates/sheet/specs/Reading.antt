@@ -2,7 +2,7 @@
 use mathlib.Core.Bool.{Bool, true, false, cond, not, _&&_, _||_}
 use mathlib.Core.List.{List, [], _∷_}
 use mathlib.Core.Path.{_≡_}
-use Prim.Native.Nat.{ℕ, zero, suc, _+_, _^_, _≤_, _<_}
+use Prim.Native.Nat.{ℕ, zero, suc, _+_, _-_, _^_, _≤_, _<_}
 use lib.Dec.{eqb, leb, ltb}
 use lib.ListN.{length}
 use Rattle.refusals.specs.declared.Refusal.{Refusal}
@@ -31,19 +31,25 @@ pub data Answer (A : Type 0) : Type 0 where
   kept : A → Answer A
   refused : Refusal → Answer A
 
-abbrev pub refuseIf : {A : Type 0} → Bool → ℕ → ℕ → Answer A → Answer A
-refuseIf true e n a = refused (refusal e n)
-refuseIf false e n a = a
+abbrev pub refuseIf : {A : Type 0} → Bool → Refusal → Answer A → Answer A
+refuseIf true q a = refused q
+refuseIf false q a = a
 
--- "4: bad feature name, action or state"
-abbrev pub stated : ℕ → Number → (ℕ → Answer State) → Answer State
-stated n Bad k = refused (refusal 4 n)
-stated n (Of q) k = k q
+-- "where the field concerned begins", "counted from 1 in its line": the field that stands behind these, each with its tab
+abbrev pub placeBehind : List (List ℕ) → ℕ
+placeBehind [] = 1
+placeBehind (f ∷ fs) = length f + 1 + placeBehind fs
 
--- 5 to 7: the guard's own refusal; the place of the faulty byte plays no part here
-abbrev pub guarded : ℕ → Outcome → (Guard → Answer State) → Answer State
-guarded n (faulty e bs) k = refused (refusal e n)
-guarded n (took g rest) k = k g
+-- "4: bad feature name, action or state": of line n, a state's field that begins at place p
+abbrev pub stated : ℕ → ℕ → Number → (ℕ → Answer State) → Answer State
+stated n p Bad k = refused (refusal 4 n p)
+stated n p (Of q) k = k q
+
+-- 5 to 7: "the place of the faulty byte", in the field x, which begins at place p of line n. The bytes bs are those from the faulty one on, so that "a
+-- guard that ends too soon gives the place one past its last byte"
+abbrev pub guarded : ℕ → ℕ → List ℕ → Outcome → (Guard → Answer State) → Answer State
+guarded n p x (faulty e bs) k = refused (refusal e n (p + (length x - length bs)))
+guarded n p x (took g rest) k = k g
 
 abbrev pub goOn : Answer State → (State → Answer Sheet) → Answer Sheet
 goOn (refused q) k = refused q
@@ -107,55 +113,56 @@ abbrev pub keep : ℕ → ℕ → Sheet → Answer State
 keep section line s = kept (record { section = section; validLine = line; sheet = s })
 
 -- ---- the lines, each by its fields behind the word. n is the line's number, `at` the number of bytes before its second field.
--- "In a line: 3, then 8, then the fields from the left by 4 to 7, then 9."
+-- "In a line: 3, then 8, then the fields from the left by 4 to 7, then 9." "Refusals 4 and 9 give where the field concerned begins, empty or not (for 9
+-- on a move, of its from field), all others 0."
 
 -- "A first line other than `fts`, tab, `1` is 3 at line 1."
 unfoldable pub ftsLine : ℕ → State → One → Answer State
-ftsLine n st notOne = refused (refusal 3 n)
-ftsLine n st (only x) = refuseIf (not (sameBytes x editionWord)) 3 n (keep 1 (st .validLine) (st .sheet))
+ftsLine n st notOne = refused (refusal 3 n 0)
+ftsLine n st (only x) = refuseIf (not (sameBytes x editionWord)) (refusal 3 n 0) (keep 1 (st .validLine) (st .sheet))
 
 unfoldable pub featureLine : ℕ → ℕ → State → One → Answer State
-featureLine n at st notOne = refused (refusal 3 n)
+featureLine n at st notOne = refused (refusal 3 n 0)
 featureLine n at st (only x) =
-    refuseIf (leb 10 (length (st .sheet .features))) 8 n
-    (refuseIf (not (isName x)) 4 n
-    (refuseIf (isKnown (number (names (st .sheet .features)) x)) 9 n
+    refuseIf (leb 10 (length (st .sheet .features))) (refusal 8 n 0)
+    (refuseIf (not (isName x)) (refusal 4 n (placeBehind (featureWord ∷ [])))
+    (refuseIf (isKnown (number (names (st .sheet .features)) x)) (refusal 9 n (placeBehind (featureWord ∷ [])))
     (keep 1 (st .validLine) (withFeature (st .sheet) (record { name = x; place = at })))))
 
 abbrev pub guardIn : State → List ℕ → Outcome
 guardIn st x = readWhole (names (st .sheet .features)) x
 
 unfoldable pub validLine : ℕ → State → One → Answer State
-validLine n st notOne = refused (refusal 3 n)
-validLine n st (only x) = guarded n (guardIn st x) (λ g. keep 2 n (withValid (st .sheet) g))
+validLine n st notOne = refused (refusal 3 n 0)
+validLine n st (only x) = guarded n (placeBehind (validWord ∷ [])) x (guardIn st x) (λ g. keep 2 n (withValid (st .sheet) g))
 
 unfoldable pub startLine : ℕ → State → One → Answer State
-startLine n st notOne = refused (refusal 3 n)
-startLine n st (only x) = stated n (readState x) (λ q. keep 3 (st .validLine) (withStart (st .sheet) q))
+startLine n st notOne = refused (refusal 3 n 0)
+startLine n st (only x) = stated n (placeBehind (startWord ∷ [])) (readState x) (λ q. keep 3 (st .validLine) (withStart (st .sheet) q))
 
--- a move whose states and action are good: its guard by 5 to 7, then 9
-unfoldable pub guardedMove : ℕ → State → ℕ → List ℕ → ℕ → ℕ → List ℕ → Answer State
-guardedMove n st from action place to g =
-    guarded n (guardIn st g) (λ guard.
-    refuseIf (moved from action to (st .sheet .moves)) 9 n
+-- a move whose states and action are good: its guard, which begins at place p, by 5 to 7, then 9
+unfoldable pub guardedMove : ℕ → ℕ → State → ℕ → List ℕ → ℕ → ℕ → List ℕ → Answer State
+guardedMove n p st from action place to g =
+    guarded n p g (guardIn st g) (λ guard.
+    refuseIf (moved from action to (st .sheet .moves)) (refusal 9 n (placeBehind (moveWord ∷ [])))
     (keep 3 (st .validLine)
     (withMove (st .sheet) (record { line = n; from = from; action = action; place = place; to = to; guard = guard }))))
 
 unfoldable pub moveLine : ℕ → ℕ → State → Four → Answer State
-moveLine n at st notFour = refused (refusal 3 n)
+moveLine n at st notFour = refused (refusal 3 n 0)
 moveLine n at st (four f a t g) =
-    refuseIf (leb 256 (length (st .sheet .moves))) 8 n
-    (stated n (readState f) (λ from.
-    refuseIf (not (isAction a)) 4 n
-    (stated n (readState t) (λ to.
-    guardedMove n st from a (at + length f + 1) to g))))
+    refuseIf (leb 256 (length (st .sheet .moves))) (refusal 8 n 0)
+    (stated n (placeBehind (moveWord ∷ [])) (readState f) (λ from.
+    refuseIf (not (isAction a)) (refusal 4 n (placeBehind (moveWord ∷ f ∷ [])))
+    (stated n (placeBehind (moveWord ∷ f ∷ a ∷ [])) (readState t) (λ to.
+    guardedMove n (placeBehind (moveWord ∷ f ∷ a ∷ t ∷ [])) st from a (at + length f + 1) to g))))
 
 unfoldable pub stopLine : ℕ → State → Two → Answer State
-stopLine n st notTwo = refused (refusal 3 n)
+stopLine n st notTwo = refused (refusal 3 n 0)
 stopLine n st (two q g) =
-    stated n (readState q) (λ state.
-    guarded n (guardIn st g) (λ guard.
-    refuseIf (stopped state (st .sheet .stops)) 9 n
+    stated n (placeBehind (stopWord ∷ [])) (readState q) (λ state.
+    guarded n (placeBehind (stopWord ∷ q ∷ [])) g (guardIn st g) (λ guard.
+    refuseIf (stopped state (st .sheet .stops)) (refusal 9 n (placeBehind (stopWord ∷ [])))
     (keep 4 (st .validLine) (withStop (st .sheet) (record { line = n; state = state; guard = guard })))))
 
 -- the kind of a line, by its word and the section that has come; "line unknown, misplaced" is no kind
@@ -176,11 +183,11 @@ byKind Valid n at st fs = validLine n st (asOne fs)
 byKind Start n at st fs = startLine n st (asOne fs)
 byKind Move n at st fs = moveLine n at st (asFour fs)
 byKind Stop n at st fs = stopLine n st (asTwo fs)
-byKind Misplaced n at st fs = refused (refusal 3 n)
+byKind Misplaced n at st fs = refused (refusal 3 n 0)
 
 -- `at` is the number of bytes before the line. No line has one field only.
 abbrev pub byWord : ℕ → ℕ → State → List (List ℕ) → Answer State
-byWord n at st [] = refused (refusal 3 n)
+byWord n at st [] = refused (refusal 3 n 0)
 byWord n at st (w ∷ fs) = byKind (kindIn (st .section) w) n (at + length w + 1) st fs
 
 unfoldable pub readLine : ℕ → ℕ → State → List ℕ → Answer State
@@ -193,8 +200,8 @@ none t (suc n) = not (t n) && none t n
 
 unfoldable pub ended : ℕ → State → Answer Sheet
 ended n st =
-    refuseIf (ltb (st .section) 3) 3 n
-    (refuseIf (none (isValid (st .sheet)) (2 ^ length (st .sheet .features))) 10 (st .validLine)
+    refuseIf (ltb (st .section) 3) (refusal 3 n 0)
+    (refuseIf (none (isValid (st .sheet)) (2 ^ length (st .sheet .features))) (refusal 10 (st .validLine) 0)
     (kept (st .sheet)))
 
 -- "Order: 1, 2, then the lines from the top."
@@ -213,6 +220,6 @@ last d (b ∷ bs) = last b bs
 -- "1: sheet over 65,536 bytes"; "2: sheet empty, or last byte is not 10"; "Lines are counted from 1."
 unfoldable pub readSheet : List ℕ → Answer Sheet
 readSheet s =
-    refuseIf (ltb 65536 (length s)) 1 0
-    (refuseIf (not (eqb (last 0 s) 10)) 2 0
+    refuseIf (ltb 65536 (length s)) (refusal 1 0 0)
+    (refuseIf (not (eqb (last 0 s) 10)) (refusal 2 0 0)
     (readLines 1 0 nothing (lines s)))

@@ -53,10 +53,11 @@ pub struct LinePlace {
     pub number: usize,
 }
 
-// A move's states, where its from, action and to are good.
+// A move's states, where its from, action and to are good; else where in the line the first bad one of
+// them begins.
 pub enum Triple {
     Good { from: usize, to: usize },
-    Bad,
+    Bad(usize),
 }
 
 // What a line is, by its word and the section reached.
@@ -193,10 +194,15 @@ fn clear_guards(rows: &mut [[u64; 16]])
     }
 }
 
+// A refusal of the sheet as a whole, or of its end, speaks of no place.
 fn refuse_sheet(number: u8, line: usize) -> SheetRead
-    ensures { λ r. ⌜ r ≡ SheetRead.Refused (refusal number line) ⌝ }
+    ensures { λ r. ⌜ r ≡ SheetRead.Refused (refusal number line 0) ⌝ }
 {
-    SheetRead::Refused(Refusal { number, line })
+    SheetRead::Refused(Refusal {
+        number,
+        line,
+        place: 0,
+    })
 }
 
 // Reads all lines into blank tables; what a refusal leaves in them is not said. `seen` has the marks by

@@ -30,6 +30,17 @@ use tables::MOST_STOPS;
 
 const TAB: u8 = 9;
 
+// Where the field behind its word and tab begins in a line of each kind, counted from 1.
+const BEHIND_FEATURE: usize = 9;
+
+const BEHIND_VALID: usize = 7;
+
+const BEHIND_START: usize = 7;
+
+const BEHIND_MOVE: usize = 6;
+
+const BEHIND_STOP: usize = 6;
+
 // The line at a place, after what c says.
 pub(crate) fn read_line(
     text: &[u8],
@@ -53,7 +64,7 @@ pub(crate) fn read_line(
     let l = &text[at..end];
     let w = fields::find(l, TAB, 0);
     if l.len() <= w {
-        return refuse(3, line);
+        return refuse(3, line, 0);
     }
     let rest = &l[w + 1..];
     let k = line_kind(c.section, &l[0..w]);
@@ -65,7 +76,7 @@ pub(crate) fn read_line(
         LineKind::Start => read_start(rest, line, c),
         LineKind::Move => read_move(text, rest, next, line, c, names, moves, move_guards, seen),
         LineKind::Stop => read_stop(text, rest, line, c, names, stops, stop_guards),
-        LineKind::Misplaced => refuse(3, line),
+        LineKind::Misplaced => refuse(3, line, 0),
     }
 }
 
@@ -105,19 +116,34 @@ fn line_kind(section: u8, word: &[u8]) -> LineKind
     LineKind::Misplaced
 }
 
-fn refuse(number: u8, line: usize) -> LineRead
-    ensures { λ r. ⌜ r ≡ LineRead.Refused (refusal number line) ⌝ }
+fn refuse(number: u8, line: usize, place: usize) -> LineRead
+    ensures { λ r. ⌜ r ≡ LineRead.Refused (refusal number line place) ⌝ }
 {
-    LineRead::Refused(Refusal { number, line })
+    LineRead::Refused(Refusal {
+        number,
+        line,
+        place,
+    })
 }
 
-// A guard's refusal as its line's.
-fn refuse_guard(read: GuardRead, line: usize) -> LineRead
-    ensures { λ r. ⌜ ((e at : ℕ) → read ≡ GuardRead.Refused e at → r ≡ LineRead.Refused (refusal e line)) ⌝ }
+// A guard's refusal as its line's: `field` is where the guard begins in its line.
+fn refuse_guard(read: GuardRead, line: usize, field: usize) -> LineRead
+    requires { ⌜ ((e at : ℕ) → read ≡ GuardRead.Refused e at → field + at < 18446744073709551616) ⌝ }
+    ensures { λ r. ⌜ ((e at : ℕ) → read ≡ GuardRead.Refused e at → r ≡ LineRead.Refused (refusal e line (field + at))) ⌝ }
 {
     match read {
-        GuardRead::Refused { number, at: _ } => refuse(number, line),
-        GuardRead::Upto(_) => refuse(0, line),
+        GuardRead::Refused { number, at } => refuse(number, line, field + at),
+        GuardRead::Upto(_) => refuse(0, line, 0),
+    }
+}
+
+// A bad field of a move, by where it begins.
+fn refuse_triple(t: Triple, line: usize) -> LineRead
+    ensures { λ r. ⌜ ((p : ℕ) → t ≡ Triple.Bad p → r ≡ LineRead.Refused (refusal 4 line p)) ⌝ }
+{
+    match t {
+        Triple::Bad(place) => refuse(4, line, place),
+        Triple::Good { from: _, to: _ } => refuse(0, line, 0),
     }
 }
 
@@ -125,10 +151,10 @@ fn read_fts(rest: &[u8], line: usize, c: Progress) -> LineRead
     ensures { λ r. ⌜ ((s : List ℕ) (T : Tables) (seen : List ℕ) (st : State) → Stands s T seen c st → Says s T seen r (ftsLine line st (asOne (fields (now (rest .entry)))))) ⌝ }
 {
     if !cutting::is_one(rest) {
-        return refuse(3, line);
+        return refuse(3, line, 0);
     }
     if !fields::same_bytes(rest, b"1") {
-        return refuse(3, line);
+        return refuse(3, line, 0);
     }
     LineRead::Kept(Progress {
         section: 1,
@@ -152,18 +178,18 @@ fn read_feature(
     ensures { λ r. ⌜ ((v : List ℕ) (m g t h : List (List ℕ)) (seen : List ℕ) (st : State) → Stands (now (text .entry)) (tables (now (names .entry)) v m g t h) seen c st → Lies (now (text .entry)) (now (rest .entry)) at → Says (now (text .entry)) (tables (now (names .exit)) v m g t h) seen r (featureLine line at st (asOne (fields (now (rest .entry)))))) ⌝ }
 {
     if !cutting::is_one(rest) {
-        return refuse(3, line);
+        return refuse(3, line, 0);
     }
     let k = c.features;
     if MOST_FEATURES <= k {
-        return refuse(8, line);
+        return refuse(8, line, 0);
     }
     if !values::is_name(rest) {
-        return refuse(4, line);
+        return refuse(4, line, BEHIND_FEATURE);
     }
     let f = guards::find_name(text, names, k, rest);
     let Found::Nothing = f else {
-        return refuse(9, line);
+        return refuse(9, line, BEHIND_FEATURE);
     };
     // NAME and NAME_END.
     names[k] = [at, at + rest.len()];
@@ -188,11 +214,11 @@ fn read_valid(
     ensures { λ r. ⌜ ((m g t h : List (List ℕ)) (seen : List ℕ) (st : State) → Stands (now (text .entry)) (tables (now (names .entry)) (now (valid .entry)) m g t h) seen c st → Says (now (text .entry)) (tables (now (names .entry)) (now (valid .exit)) m g t h) seen r (validLine line st (asOne (fields (now (rest .entry)))))) ⌝ }
 {
     if !cutting::is_one(rest) {
-        return refuse(3, line);
+        return refuse(3, line, 0);
     }
     let read = guards::read_whole(text, names, c.features, rest, valid);
     let GuardRead::Upto(_) = read else {
-        return refuse_guard(read, line);
+        return refuse_guard(read, line, BEHIND_VALID);
     };
     LineRead::Kept(Progress {
         section: 2,
@@ -208,11 +234,11 @@ fn read_start(rest: &[u8], line: usize, c: Progress) -> LineRead
     ensures { λ r. ⌜ ((s : List ℕ) (T : Tables) (seen : List ℕ) (st : State) → Stands s T seen c st → Says s T seen r (startLine line st (asOne (fields (now (rest .entry)))))) ⌝ }
 {
     if !cutting::is_one(rest) {
-        return refuse(3, line);
+        return refuse(3, line, 0);
     }
     let q = values::read_state(rest);
     let Number::Of(start) = q else {
-        return refuse(4, line);
+        return refuse(4, line, BEHIND_START);
     };
     LineRead::Kept(Progress {
         section: 3,
@@ -240,14 +266,23 @@ fn read_move(
     ensures { λ r. ⌜ ((v : List ℕ) (t h : List (List ℕ)) (st : State) → Stands (now (text .entry)) (tables (now (names .entry)) v (now (moves .entry)) (now («move_guards» .entry)) t h) (now (seen .entry)) c st → Lies (now (text .entry)) (now (rest .entry)) at → Says (now (text .entry)) (tables (now (names .entry)) v (now (moves .exit)) (now («move_guards» .exit)) t h) (now (seen .exit)) r (moveLine line at st (asFour (fields (now (rest .entry)))))) ⌝ }
 {
     let FourFields::Ends { b, c: m, d } = cutting::cut_four(rest) else {
-        return refuse(3, line);
+        return refuse(3, line, 0);
     };
     if MOST_MOVES <= c.moves {
-        return refuse(8, line);
+        return refuse(8, line, 0);
     }
-    let t = read_triple(&rest[0..b], &rest[b + 1..m], &rest[m + 1..d]);
+    let action_place = BEHIND_MOVE + b + 1;
+    let to_place = BEHIND_MOVE + m + 1;
+    let guard_place = BEHIND_MOVE + d + 1;
+    let t = read_triple(
+        &rest[0..b],
+        &rest[b + 1..m],
+        action_place,
+        &rest[m + 1..d],
+        to_place,
+    );
     let Triple::Good { from, to } = t else {
-        return refuse(4, line);
+        return refuse_triple(t, line);
     };
     keep_move(
         text,
@@ -258,6 +293,7 @@ fn read_move(
         at + b + 1,
         to,
         &rest[d + 1..],
+        guard_place,
         names,
         moves,
         move_guards,
@@ -265,20 +301,26 @@ fn read_move(
     )
 }
 
-// The fields from, action and to of a move.
-fn read_triple(from: &[u8], action: &[u8], to: &[u8]) -> Triple
-    ensures { λ r. ⌜ Tripled (now (from .entry)) (now (action .entry)) (now (to .entry)) r ⌝ }
+// The fields from, action and to of a move, and where the two last begin in their line.
+fn read_triple(
+    from: &[u8],
+    action: &[u8],
+    action_place: usize,
+    to: &[u8],
+    to_place: usize,
+) -> Triple
+    ensures { λ r. ⌜ Tripled «action_place» «to_place» (now (from .entry)) (now (action .entry)) (now (to .entry)) r ⌝ }
 {
     let f = values::read_state(from);
     let Number::Of(first) = f else {
-        return Triple::Bad;
+        return Triple::Bad(BEHIND_MOVE);
     };
     if !values::is_action(action) {
-        return Triple::Bad;
+        return Triple::Bad(action_place);
     }
     let o = values::read_state(to);
     let Number::Of(second) = o else {
-        return Triple::Bad;
+        return Triple::Bad(to_place);
     };
     Triple::Good {
         from: first,
@@ -286,8 +328,8 @@ fn read_triple(from: &[u8], action: &[u8], to: &[u8]) -> Triple
     }
 }
 
-// A move whose states and action are good: its guard, laid straight into the next row of guards, then
-// whether it is a repeat, then its row.
+// A move whose states and action are good: its guard, which begins at place `guard_place` of the line and is laid
+// straight into the next row of guards, then whether it is a repeat, then its row.
 fn keep_move(
     text: &[u8],
     line: usize,
@@ -297,21 +339,22 @@ fn keep_move(
     place: usize,
     to: usize,
     guard: &[u8],
+    guard_place: usize,
     names: &[[usize; 2]; 10],
     moves: &mut [[usize; 5]],
     move_guards: &mut [[u64; 16]],
     seen: &mut [u64; 128],
 ) -> LineRead
-    requires { ⌜ (place + length (now action) ≤ length (now text)) × (c .moves < 256) × (c .moves < length (now moves)) × (c .moves < length (now «move_guards»)) ⌝ }
-    ensures { λ r. ⌜ ((v : List ℕ) (t h : List (List ℕ)) (st : State) → Stands (now (text .entry)) (tables (now (names .entry)) v (now (moves .entry)) (now («move_guards» .entry)) t h) (now (seen .entry)) c st → Lies (now (text .entry)) (now (action .entry)) place → Says (now (text .entry)) (tables (now (names .entry)) v (now (moves .exit)) (now («move_guards» .exit)) t h) (now (seen .exit)) r (guardedMove line st from (now (action .entry)) place to (now (guard .entry)))) ⌝ }
+    requires { ⌜ (place + length (now action) ≤ length (now text)) × (c .moves < 256) × (c .moves < length (now moves)) × (c .moves < length (now «move_guards»)) × («guard_place» + length (now guard) ≤ length (now text) + 6) ⌝ }
+    ensures { λ r. ⌜ ((v : List ℕ) (t h : List (List ℕ)) (st : State) → Stands (now (text .entry)) (tables (now (names .entry)) v (now (moves .entry)) (now («move_guards» .entry)) t h) (now (seen .entry)) c st → Lies (now (text .entry)) (now (action .entry)) place → Says (now (text .entry)) (tables (now (names .entry)) v (now (moves .exit)) (now («move_guards» .exit)) t h) (now (seen .exit)) r (guardedMove line «guard_place» st from (now (action .entry)) place to (now (guard .entry)))) ⌝ }
 {
     let k = c.moves;
     let read = guards::read_whole(text, names, c.features, guard, &mut move_guards[k]);
     let GuardRead::Upto(_) = read else {
-        return refuse_guard(read, line);
+        return refuse_guard(read, line, guard_place);
     };
     if is_repeat(text, moves, k, seen, from, action, to) {
-        return refuse(9, line);
+        return refuse(9, line, BEHIND_MOVE);
     }
     // LINE, FROM, ACTION, ACTION_END and TO.
     moves[k] = [line, from, place, place + action.len(), to];
@@ -341,23 +384,23 @@ fn read_stop(
 {
     let cut = cutting::cut_two(rest);
     let TwoFields::Parted(b) = cut else {
-        return refuse(3, line);
+        return refuse(3, line, 0);
     };
     let q = values::read_state(&rest[0..b]);
     let Number::Of(state) = q else {
-        return refuse(4, line);
+        return refuse(4, line, BEHIND_STOP);
     };
     let mut set = [0u64; 16];
     let read = guards::read_whole(text, names, c.features, &rest[b + 1..], &mut set);
     let GuardRead::Upto(_) = read else {
-        return refuse_guard(read, line);
+        return refuse_guard(read, line, BEHIND_STOP + b + 1);
     };
     let k = c.stops;
     if has_stop(stops, k, state) {
-        return refuse(9, line);
+        return refuse(9, line, BEHIND_STOP);
     }
     if MOST_STOPS <= k {
-        return refuse(9, line);
+        return refuse(9, line, BEHIND_STOP);
     }
     // LINE and STATE.
     stops[k] = [line, state];

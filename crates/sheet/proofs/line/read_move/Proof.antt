@@ -2,7 +2,7 @@
 use borrow.Author.Needs.{needs}
 use native.Mathlib.Omega.{arith}
 use Rattle.fields.specs.Bytes.{part}
-use Rattle.sheet.proofs.Moves.{ends-of, action-fits, action-lies, move-wrong, move-full, move-bad, move-on}
+use Rattle.sheet.proofs.Moves.{ends-of, guard-fits, action-fits, action-lies, move-wrong, move-full, move-bad, move-on}
 use Rattle.sheet.proofs.line.read_move.Statement.{statement}
 use Rattle.sheet.proofs.line.read_move.Tie as tie
 
@@ -15,6 +15,24 @@ returns-2 c =
     λ v t h st so lies.
     move-full _ _ _ st so (c .before .before .before .before .b .given .1) (c .before .before .before .before .before .before .cut-four .ensures)
     (omega (arith, c .before .if1 .taken)) (c .refuse2 .ensures)
+
+add-action-place : tie.Need-add-action-place
+add-action-place c = let k = ends-of _ (c .before .before .before .b .given .1) (c .before .before .before .before .before .cut-four .ensures) in omega arith
+
+add-action-place-2 : tie.Need-add-action-place-2
+add-action-place-2 c = let k = ends-of _ (c .before .before .before .b .given .1) (c .before .before .before .before .before .cut-four .ensures) in omega arith
+
+add-to-place : tie.Need-add-to-place
+add-to-place c = let k = ends-of _ (c .before .before .before .b .given .1) (c .before .before .before .before .before .cut-four .ensures) in omega arith
+
+add-to-place-2 : tie.Need-add-to-place-2
+add-to-place-2 c = let k = ends-of _ (c .before .before .before .b .given .1) (c .before .before .before .before .before .cut-four .ensures) in omega arith
+
+add-guard-place : tie.Need-add-guard-place
+add-guard-place c = let k = ends-of _ (c .before .before .before .b .given .1) (c .before .before .before .before .before .cut-four .ensures) in omega arith
+
+add-guard-place-2 : tie.Need-add-guard-place-2
+add-guard-place-2 c = let k = ends-of _ (c .before .before .before .b .given .1) (c .before .before .before .before .before .cut-four .ensures) in omega arith
 
 sub-read-triple : tie.Need-sub-read-triple
 sub-read-triple c = let k = ends-of _ (c .before .before .before .b .given .1)
@@ -81,7 +99,7 @@ returns-3 c =
     move-bad _ _ _ st so (c .before .before .before .before .before .before .before .before .before .before .b .given .1)
     (c .before .before .before .before .before .before .before .before .before .before .before .before .cut-four .ensures)
     (c .before .before .before .before .before .before .before .if1 .left) (c .before .before .before .read-triple .ensures)
-    (c .before .enum-told2 .given .1) (c .refuse3 .ensures)
+    (c .before .enum-told2 .given .1) (c .refuse-triple .ensures _ (c .before .enum-told2 .given .1))
 
 add-keep-move : tie.Need-add-keep-move
 add-keep-move c =
@@ -158,6 +176,7 @@ keep-move-requires c κs =
       few,
       omega (arith, p .0 .1, p .1 .0),
       omega (arith, p .0 .1, p .1 .1),
+      guard-fits _ (c .before .before .before .before .before .before .before .before .before .before .before .before .before .before .before .b .given .1) (c .before .before .before .before .before .before .before .before .before .before .before .before .before .before .before .before .before .cut-four .ensures) _ _ (p .0 .0),
     )
 
 returns-4 : tie.Need-returns-4
@@ -187,6 +206,12 @@ read-move-spec =
     returns
     (λ c κs. search needs)
     returns-2
+    add-action-place
+    add-action-place-2
+    add-to-place
+    add-to-place-2
+    add-guard-place
+    add-guard-place-2
     sub-read-triple
     part-read-triple-start
     part-read-triple-end

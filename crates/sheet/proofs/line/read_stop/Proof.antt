@@ -2,7 +2,8 @@
 use borrow.Author.Needs.{needs}
 use native.Mathlib.Omega.{arith}
 use Rattle.fields.specs.Bytes.{part}
-use Rattle.sheet.proofs.Moves.{parted-of, stop-wrong, stop-state, stop-refused, stop-repeat, stop-never, stop-kept}
+use Rattle.sheet.proofs.Lines.{refused-within}
+use Rattle.sheet.proofs.Moves.{parted-of, second-fits, stop-wrong, stop-state, stop-refused, stop-repeat, stop-never, stop-kept}
 use Rattle.sheet.proofs.line.read_stop.Statement.{statement}
 use Rattle.sheet.proofs.line.read_stop.Tie as tie
 
@@ -49,6 +50,16 @@ part-read-whole-end c =
     let k = parted-of _ (c .before .before .before .before .before .before .cut .given .1)
     (c .before .before .before .before .before .before .before .before .cut-two .ensures) in
     omega arith
+
+add-refuse-guard : tie.Need-add-refuse-guard
+add-refuse-guard c = let k = parted-of _ (c .before .before .before .before .before .before .before .before .before .before .before .cut .given .1) (c .before .before .before .before .before .before .before .before .before .before .before .before .before .cut-two .ensures) in omega arith
+
+add-refuse-guard-2 : tie.Need-add-refuse-guard-2
+add-refuse-guard-2 c = let k = parted-of _ (c .before .before .before .before .before .before .before .before .before .before .before .cut .given .1) (c .before .before .before .before .before .before .before .before .before .before .before .before .before .cut-two .ensures) in omega arith
+
+refuse-guard-requires : tie.Need-refuse-guard-requires
+unfolding part
+refuse-guard-requires c κs = λ e at q. omega (arith, second-fits _ (c .before .before .before .before .before .before .before .before .before .before .before .cut .given .1) (c .before .before .before .before .before .before .before .before .before .before .before .before .before .cut-two .ensures) (refused-within _ (c .before .before .read-whole .result) _ _ (c .before .before .read-whole .ensures) q))
 
 returns-3 : tie.Need-returns-3
 unfolding part
@@ -108,7 +119,9 @@ read-stop-spec =
     (λ c κs. search needs)
     (λ c. search needs)
     (λ c. search needs)
-    (λ c κs. search needs)
+    add-refuse-guard
+    add-refuse-guard-2
+    refuse-guard-requires
     returns-3
     (λ c κs. search needs)
     (λ c κs. search needs)

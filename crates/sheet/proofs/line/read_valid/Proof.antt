@@ -1,11 +1,15 @@
 -- `line::read_valid` meets its contract: a law of `Lines` for each return. Assumes nothing.
 use borrow.Author.Needs.{needs}
-use Rattle.sheet.proofs.Lines.{valid-wrong, valid-refused, valid-kept}
+use native.Mathlib.Omega.{arith}
+use Rattle.sheet.proofs.Lines.{refused-within, valid-wrong, valid-refused, valid-kept}
 use Rattle.sheet.proofs.line.read_valid.Statement.{statement}
 use Rattle.sheet.proofs.line.read_valid.Tie as tie
 
 returns : tie.Need-returns
 returns c = λ m g t h seen st so. valid-wrong _ (c .before .before .is-one .result) (c .before .before .is-one .ensures) _ st (c .before .if1 .taken) (c .refuse .ensures)
+
+refuse-guard-requires : tie.Need-refuse-guard-requires
+refuse-guard-requires c κs = λ e at q. omega (arith, refused-within _ (c .before .before .read-whole .result) _ _ (c .before .before .read-whole .ensures) q)
 
 returns-2 : tie.Need-returns-2
 returns-2 c =
@@ -28,6 +32,6 @@ read-valid-spec =
     (λ c κs. search needs)
     (λ c. search needs)
     (λ c. search needs)
-    (λ c κs. search needs)
+    refuse-guard-requires
     returns-2
     returns-3)
