@@ -74,7 +74,7 @@ is-long {l′ = l′} (vs, is, w) = record { text = vs; is = is; none = l′; wr
 
 -- it told the length n of the text that has the property: the text is longer than m, or it fits, and so does any such text where there is only one
 module _ {R : List ℕ → Type 0} {n : ℕ} (first : Long R n) {m : ℕ} (b : m < limit) where
-  pub too-long : (line : ℕ) → m < n → TooLong R m line (refusal 11 line)
+  pub too-long : (line : ℕ) → m < n → TooLong R m line (refusal 11 line 0)
   too-long line longer = record { eleven = refl; text = first .text; is = first .is; longer = dry-too-long (first .wrote) longer b }
 
   pub fits : n ≤ m → Fits R m
@@ -105,7 +105,7 @@ pub fit : {R : List ℕ → Type 0} {m : ℕ} {b : Bool} → Fitting R m b → n
 fit {b = true} f e = f .is
 fit {b = false} f e = absurd (false≢true (sym e))
 
-pub unfit : {R : List ℕ → Type 0} {m : ℕ} {b : Bool} → Fitting R m b → not b ≡ true → (line : ℕ) → TooLong R m line (refusal 11 line)
+pub unfit : {R : List ℕ → Type 0} {m : ℕ} {b : Bool} → Fitting R m b → not b ≡ true → (line : ℕ) → TooLong R m line (refusal 11 line 0)
 unfit {b = true} f e = absurd (false≢true e)
 unfit {b = false} f e = f .is
 
@@ -116,6 +116,6 @@ report-long h = record { is = (refl, refl, inl h) }
 
 -- the clean sheet does not fit, and the line goes by the report
 pub both-long : {r : Sheet} {room second : List ℕ} {line : ℕ} → Longer (IsReport _≤_ r) (length room) line
-    → ((line : ℕ) → TooLong (IsClean r) (cleanMost second) line (refusal 11 line)) → BothFilling r room room second second (two.Refused (refusal 11 line))
+    → ((line : ℕ) → TooLong (IsClean r) (cleanMost second) line (refusal 11 line 0)) → BothFilling r room room second second (two.Refused (refusal 11 line 0))
 both-long (inl (e, long)) clean = rw e (record { is = (refl, refl, inl long) })
 both-long (inr (e, fit)) clean = rw e (record { is = (refl, refl, inr (fit, clean 2)) })

@@ -51,14 +51,14 @@ pub record Long (Is : List ℕ → Type 0) (n : ℕ) : Type 0 where
 -- whether it fits: none that is meant is longer, or one is
 abbrev pub Fitted : (List ℕ → Type 0) → ℕ → Bool → Type 0
 Fitted Is most true = (text : List ℕ) → Is text → length text ≤ most
-Fitted Is most false = (line : ℕ) → TooLong Is most line (refusal 11 line)
+Fitted Is most false = (line : ℕ) → TooLong Is most line (refusal 11 line 0)
 
 pub record Fitting (Is : List ℕ → Type 0) (most : ℕ) (b : Bool) : Type 0 where
   pub is : Fitted Is most b
 
 -- of which line 11 speaks, by whether this text is too long, where another is
 abbrev pub Longer : (List ℕ → Type 0) → ℕ → ℕ → Type 0
-Longer Is most line = ((line ≡ 1) × TooLong Is most 1 (refusal 11 1)) ⊎ ((line ≡ 2) × Fits Is most)
+Longer Is most line = ((line ≡ 1) × TooLong Is most 1 (refusal 11 1 0)) ⊎ ((line ≡ 2) × Fits Is most)
 
 -- one text in one room
 abbrev pub Fills : (List ℕ → Type 0) → ℕ → List ℕ → List ℕ → Answers → Type 0

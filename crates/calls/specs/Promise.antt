@@ -27,7 +27,7 @@ pub record Filled (Is : List ℕ → Type 0) (most : ℕ) (room room′ : List �
 
 -- "11: result longer than the room", with the line that the call gives it
 pub record TooLong (Is : List ℕ → Type 0) (most line : ℕ) (q : Refusal) : Type 0 where
-  pub eleven : q ≡ refusal 11 line
+  pub eleven : q ≡ refusal 11 line 0
   pub text : List ℕ
   pub is : Is text
   pub longer : most < length text

@@ -11,13 +11,13 @@ use Rattle.calls.specs.declared.Answer.the-variants as one
 use Rattle.calls.specs.declared.Answers.{Answers}
 use Rattle.calls.specs.declared.Answers.the-variants as two
 
--- the row of the table, "0, done, 0" among them: number and line
+-- the row of the table, "0, done, 0" among them: number and line, and the place
 abbrev pub rowOf : Answer → Refusal
-rowOf (one.Done n) = refusal 0 0
+rowOf (one.Done n) = refusal 0 0 0
 rowOf (one.Refused q) = q
 
 abbrev pub rowOfBoth : Answers → Refusal
-rowOfBoth (two.Done n m) = refusal 0 0
+rowOfBoth (two.Done n m) = refusal 0 0 0
 rowOfBoth (two.Refused q) = q
 
 -- "On 0 the answer is the length n"
@@ -30,11 +30,11 @@ abbrev pub lengthsOf : Answers → ℕ × ℕ
 lengthsOf (two.Done n m) = (n, m)
 lengthsOf (two.Refused q) = (0, 0)
 
--- what `put_answer` leaves of a room that a call answered for: the text as it lies there, or the line of the refusal, whole where the room has 33 bytes,
+-- what `put_answer` leaves of a room that a call answered for: the text as it lies there, or the line of the refusal, whole where the room has 54 bytes,
 -- the most that a line has; n is how many bytes are to be printed
 pub data Put (room room′ : List ℕ) (n : ℕ) : Answer → Type 0 where
   text : room′ ≡ room → Put room room′ n (one.Done n)
-  line : {q : Refusal} → Wrote room 0 (refusalText q) room′ n → (33 ≤ length room → take n room′ ≡ refusalText q) → Put room room′ n (one.Refused q)
+  line : {q : Refusal} → Wrote room 0 (refusalText q) room′ n → (54 ≤ length room → take n room′ ≡ refusalText q) → Put room room′ n (one.Refused q)
 
 -- the bytes of it: the first n of the room, or the line
 abbrev pub printedOf : Answer → List ℕ → List ℕ

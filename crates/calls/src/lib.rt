@@ -109,9 +109,13 @@ fn first_of(a: Answers) -> Answer
 }
 
 fn refuse(number: u8, line: usize) -> Answers
-    ensures { λ r. ⌜ r ≡ Answers.Refused (refusal number line) ⌝ }
+    ensures { λ r. ⌜ r ≡ Answers.Refused (refusal number line 0) ⌝ }
 {
-    Answers::Refused(Refusal { number, line })
+    Answers::Refused(Refusal {
+        number,
+        line,
+        place: 0,
+    })
 }
 
 // The reader's refusal, unchanged.

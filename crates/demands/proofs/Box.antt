@@ -47,7 +47,7 @@ module _ (s : List ℕ) {p : ℕ} {names : List (List ℕ)} {b : RunningBox} {r 
   abbrev NoWay : Type 0
   NoWay = (q : ℕ) → Carries r p (name ∷ names) q → ⊥
 
-  by-ways : (a : BoxAnswer) (after : RunningBox) → Acts s b name a after → ((a ≡ box.Done) ↔ Way) × ((a ≡ box.Refused (refusal 19 0)) ↔ NoWay)
+  by-ways : (a : BoxAnswer) (after : RunningBox) → Acts s b name a after → ((a ≡ box.Done) ↔ Way) × ((a ≡ box.Refused (refusal 19 0 0)) ↔ NoWay)
   by-ways box.Done after h =
       let (q, w) = done-way s e x h in
       ((λ d. (q, w), λ z. refl), (λ d. absurd (done-refused d), λ n. absurd (n q w)))
@@ -106,7 +106,7 @@ act-refusals s b name q after (z, inr (r, e, inl n)) = inr (inl (n .twelve))
 act-refusals s b name q after (z, inr (r, e, inr n)) = inr (inr (n .nineteen))
 
 -- no refusal has number 0
-numbered : {q : Refusal} {n : ℕ} → 1 ≤ n → q ≡ refusal n 0 → 1 ≤ q .number
+numbered : {q : Refusal} {n : ℕ} → 1 ≤ n → q ≡ refusal n 0 0 → 1 ≤ q .number
 numbered l e = let z = ap (λ (q : Refusal). q .number) e in omega arith
 
 rows-tell : (a c : BoxAnswer) → ((q : Refusal) → a ≡ box.Refused q → 1 ≤ q .number) → ((q : Refusal) → c ≡ box.Refused q → 1 ≤ q .number) → boxRow a ≡ boxRow c → a ≡ c

@@ -50,7 +50,7 @@ room-enough s room x q h (k, inr (r, e, inl z)) = absurd z
 room-enough s room x q h (k, inr (r, e, inr l)) = absurd (omega (arith, l .longer, report-short (accepted s e) (kept-lines s e) (l .is)))
 
 -- a text that is too long for one call is so for another, with the line that this one gives to 11
-too-long-at : (line : ℕ) {Is : List ℕ → Type 0} {most old : ℕ} {q : Refusal} → TooLong Is most old q → TooLong Is most line (refusal 11 line)
+too-long-at : (line : ℕ) {Is : List ℕ → Type 0} {most old : ℕ} {q : Refusal} → TooLong Is most old q → TooLong Is most line (refusal 11 line 0)
 too-long-at line l = record { eleven = refl; text = l .text; is = l .is; longer = l .longer }
 
 -- what the single calls leave meets the promise of the call with two rooms, and only one answer with its rooms does
@@ -64,17 +64,17 @@ both-as-single s room x y clean u v c h = (done, no-report, no-clean)
     done m n (r, e, p) (q, f, k) = only x u (two.Done m n) (r, e, p, (rw (kept-one s f e) at k))
 
     no-report : (r : Sheet) (q : Refusal) → readSheet s ≡ kept r → ReportPromise s room x (one.Refused q)
-        → (c ≡ two.Refused (refusal 11 1)) × (y ≡ room) × (v ≡ clean)
+        → (c ≡ two.Refused (refusal 11 1 0)) × (y ≡ room) × (v ≡ clean)
     no-report r q e (k, inl f) = absurd (kept-refused s e f)
     no-report r q e (k, inr (t, f, inl z)) = absurd z
-    no-report r q e (k, inr (t, f, inr l)) = only room clean (two.Refused (refusal 11 1)) (refl, refl, inr (t, f, inl (too-long-at 1 l)))
+    no-report r q e (k, inr (t, f, inr l)) = only room clean (two.Refused (refusal 11 1 0)) (refl, refl, inr (t, f, inl (too-long-at 1 l)))
 
     no-clean : (m : ℕ) (q : Refusal) → ReportPromise s room x (one.Done m) → CleanPromise s clean u (one.Refused q)
-        → (c ≡ two.Refused (refusal 11 2)) × (y ≡ room) × (v ≡ clean)
+        → (c ≡ two.Refused (refusal 11 2 0)) × (y ≡ room) × (v ≡ clean)
     no-clean m q (r, e, p) (k, inl f) = absurd (kept-refused s e f)
     no-clean m q (r, e, p) (k, inr (t, f, inl z)) = absurd z
     no-clean m q (r, e, p) (k, inr (t, f, inr l)) =
-        only room clean (two.Refused (refusal 11 2)) (refl, refl, inr (t, f, inr (filled-fits (rw (kept-one s e f) at p), too-long-at 2 l)))
+        only room clean (two.Refused (refusal 11 2 0)) (refl, refl, inr (t, f, inr (filled-fits (rw (kept-one s e f) at p), too-long-at 2 l)))
 
 -- ---- demand 2
 

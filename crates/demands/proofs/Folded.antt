@@ -104,7 +104,7 @@ boat-stays-folded b run = (stands, refuses)
     stands : Stands b (λ q. q ≡ 2)
     stands = record { only = λ q i. only-there (there .place .only q i); every = λ q e. rw e (there .place .every 2 way-there) }
 
-    refuses : (name : List ℕ) → Acts dishText b name (box.Refused (refusal 19 0)) b
+    refuses : (name : List ℕ) → Acts dishText b name (box.Refused (refusal 19 0 0)) b
     refuses name = (
       refl,
       inr (

@@ -45,7 +45,7 @@ long-numbered : {Is : List ℕ → Type 0} {most line : ℕ} {q : Refusal} → T
 long-numbered l = let e = ap (λ (q : Refusal). q .number) (l .eleven) in (omega arith, omega arith)
 
 -- such a refusal is no row of a call that is done
-pub not-done : {q : Refusal} → 1 ≤ q .number → q ≡ refusal 0 0 → ⊥
+pub not-done : {q : Refusal} → 1 ≤ q .number → q ≡ refusal 0 0 0 → ⊥
 not-done n e = let z = ap (λ (q : Refusal). q .number) e in omega arith
 
 -- ---- a longer input
@@ -73,7 +73,7 @@ module _ (Is : Sheet → List ℕ → Type 0) (most : List ℕ → ℕ) where
 
   -- in a room without a byte every text is too long
   one-eleven : ((r : Sheet) (x : List ℕ) → Is r x → most [] < length x) → (s x : List ℕ) (r : Sheet) → readSheet s ≡ kept r
-      → (a : Answer) → Call s [] x a → a ≡ one.Refused (refusal 11 0)
+      → (a : Answer) → Call s [] x a → a ≡ one.Refused (refusal 11 0 0)
   one-eleven long s x r e (one.Done n) (t, f, h) = absurd (omega (arith, long t (h .text) (h .is), h .fits))
   one-eleven long s x r e (one.Refused q) (k, inl f) = absurd (kept-refused s e f)
   one-eleven long s x r e (one.Refused q) (k, inr (t, f, inl z)) = absurd z
@@ -130,34 +130,35 @@ both-cut s room x clean u a = (both-as (take 65537 s) s (cut-same s) room x clea
 -- ---- a sheet for each
 
 abbrev Given : ℕ → Type 0
-Given e = (s : List ℕ) × (n : ℕ) × (readSheet s ≡ refused (refusal e n))
+Given e = (s : List ℕ) × (n p : ℕ) × (readSheet s ≡ refused (refusal e n p))
 
 long-given : Given 1
-long-given = (replicate 65537 0, 0, read-long (replicate 65537 0) (omega (arith, length-replicate {A = ℕ} 65537 0)))
+long-given = (replicate 65537 0, 0, 0, read-long (replicate 65537 0) (omega (arith, length-replicate {A = ℕ} 65537 0)))
 
 -- the text of these lines is refused so, by computing
 lines-given : (Given 3 × Given 4) × (Given 5 × Given 6) × (Given 7 × Given 8) × (Given 9 × Given 10)
 unfolding onto printed cut sameBytes allNameBytes isName isAction readState run afterRun number parts readGuard readWhole holds names ftsLine featureLine validLine startLine readLine reading.none ended readLines last readSheet
 lines-given = (
-  ((printed ("" ∷ []), 1, refl), (printed ("fts\t1" ∷ "feature\t2g" ∷ []), 2, refl)),
-  ((printed ("fts\t1" ∷ "valid\t" ∷ []), 2, refl), (printed ("fts\t1" ∷ "valid\td" ∷ []), 2, refl)),
+  ((printed ("" ∷ []), 1, 0, refl), (printed ("fts\t1" ∷ "feature\t2g" ∷ []), 2, 9, refl)),
+  ((printed ("fts\t1" ∷ "valid\t" ∷ []), 2, 7, refl), (printed ("fts\t1" ∷ "valid\td" ∷ []), 2, 7, refl)),
   (
-    (printed ("fts\t1" ∷ "valid\t!!!!!!!!!!!!!!!!!!!!!!!!!!!!!!!!!1" ∷ []), 2, refl),
+    (printed ("fts\t1" ∷ "valid\t!!!!!!!!!!!!!!!!!!!!!!!!!!!!!!!!!1" ∷ []), 2, 39, refl),
     (
       printed
           ("fts\t1" ∷ "feature\ta" ∷ "feature\tb" ∷ "feature\tc" ∷ "feature\td" ∷ "feature\te" ∷ "feature\tf" ∷ "feature\tg" ∷ "feature\th" ∷ "feature\ti"
           ∷ "feature\tj" ∷ "feature\tk" ∷ []),
       12,
+      0,
       refl,
     ),
   ),
-  ((printed ("fts\t1" ∷ "feature\ta" ∷ "feature\ta" ∷ []), 3, refl), (printed ("fts\t1" ∷ "valid\t0" ∷ "start\t0" ∷ []), 2, refl)),
+  ((printed ("fts\t1" ∷ "feature\ta" ∷ "feature\ta" ∷ []), 3, 9, refl), (printed ("fts\t1" ∷ "valid\t0" ∷ "start\t0" ∷ []), 2, 0, refl)),
 )
 
 given : (e : ℕ) → 1 ≤ e → e ≤ 10 → Given e
 given zero l h = absurd (omega arith)
 given (suc zero) l h = long-given
-given (suc (suc zero)) l h = ([], 0, read-empty [] refl)
+given (suc (suc zero)) l h = ([], 0, 0, read-empty [] refl)
 given (suc (suc (suc zero))) l h = lines-given .0 .0
 given (suc (suc (suc (suc zero)))) l h = lines-given .0 .1
 given (suc (suc (suc (suc (suc zero))))) l h = lines-given .1 .0
@@ -169,7 +170,7 @@ given (suc (suc (suc (suc (suc (suc (suc (suc (suc (suc zero)))))))))) l h = lin
 given (suc (suc (suc (suc (suc (suc (suc (suc (suc (suc (suc e))))))))))) l h = absurd (omega arith)
 
 pub refusals-given : RefusalsGiven
-refusals-given e l h = let (s, n, f) = given e l h in (s, refusal e n, refl, f)
+refusals-given e l h = let (s, n, p, f) = given e l h in (s, refusal e n p, refl, f)
 
 pub table-refuses : TableRefuses
 table-refuses s q f = (
@@ -193,7 +194,7 @@ clean-long : {r : Sheet} {x : List ℕ} → IsClean r x → 0 < length x
 unfolding textOf joined join close
 clean-long i = let e = ap length (i .is) in omega arith
 
-both-eleven : (s x clean u : List ℕ) (r : Sheet) → readSheet s ≡ kept r → (a : Answers) → BothPromise s [] x clean u a → a ≡ two.Refused (refusal 11 1)
+both-eleven : (s x clean u : List ℕ) (r : Sheet) → readSheet s ≡ kept r → (a : Answers) → BothPromise s [] x clean u a → a ≡ two.Refused (refusal 11 1 0)
 both-eleven s x clean u r e (two.Done m n) (t, f, h, k) = absurd (omega (arith, report-long (h .is), h .fits))
 both-eleven s x clean u r e (two.Refused q) (k, j, inl f) = absurd (kept-refused s e f)
 both-eleven s x clean u r e (two.Refused q) (k, j, inr (t, f, inl l)) = ap two.Refused (l .eleven)

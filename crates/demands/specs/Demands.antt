@@ -83,8 +83,8 @@ RefusalsGiven = (e : ℕ) → 1 ≤ e → e ≤ 10 → (s : List ℕ) × (q : Re
 abbrev pub ElevenGiven : Type 0
 ElevenGiven =
     (s x clean u : List ℕ) (r : Sheet) → readSheet s ≡ kept r
-    → ((a : Answer) → ReportPromise s [] x a → a ≡ one.Refused (refusal 11 0)) × ((a : Answer) → CleanPromise s [] x a → a ≡ one.Refused (refusal 11 0))
-    × ((a : Answers) → BothPromise s [] x clean u a → a ≡ two.Refused (refusal 11 1))
+    → ((a : Answer) → ReportPromise s [] x a → a ≡ one.Refused (refusal 11 0 0)) × ((a : Answer) → CleanPromise s [] x a → a ≡ one.Refused (refusal 11 0 0))
+    × ((a : Answers) → BothPromise s [] x clean u a → a ≡ two.Refused (refusal 11 1 0))
 
 -- room-enough: no report has more than 9,545 bytes; in a room of so many `report` refuses nothing but what the table refuses.
 abbrev pub RoomEnough : Type 0
@@ -103,8 +103,8 @@ abbrev pub BothAsSingle : Type 0
 BothAsSingle =
     (s room x y clean u v : List ℕ) (c : Answers) → BothPromise s room y clean v c
     → ((m n : ℕ) → ReportPromise s room x (one.Done m) → CleanPromise s clean u (one.Done n) → (c ≡ two.Done m n) × (y ≡ x) × (v ≡ u))
-    × ((r : Sheet) (q : Refusal) → readSheet s ≡ kept r → ReportPromise s room x (one.Refused q) → (c ≡ two.Refused (refusal 11 1)) × (y ≡ room) × (v ≡ clean))
-    × ((m : ℕ) (q : Refusal) → ReportPromise s room x (one.Done m) → CleanPromise s clean u (one.Refused q) → (c ≡ two.Refused (refusal 11 2)) × (y ≡ room) × (v ≡ clean))
+    × ((r : Sheet) (q : Refusal) → readSheet s ≡ kept r → ReportPromise s room x (one.Refused q) → (c ≡ two.Refused (refusal 11 1 0)) × (y ≡ room) × (v ≡ clean))
+    × ((m : ℕ) (q : Refusal) → ReportPromise s room x (one.Done m) → CleanPromise s clean u (one.Refused q) → (c ≡ two.Refused (refusal 11 2 0)) × (y ≡ room) × (v ≡ clean))
 
 -- ---- demand 2: the verdicts of the published definitions, and the same moves in the clean sheet
 
@@ -207,7 +207,7 @@ NameRefusedIfNoWay =
     (s : List ℕ) (p : ℕ) (names : List (List ℕ)) (b : RunningBox) (r : Sheet) (name : List ℕ) (a : BoxAnswer) (after : RunningBox)
     → Run s p names b → readSheet s ≡ kept r → Acts s b name a after
     → ((a ≡ box.Done) ↔ ((q : ℕ) × Carries r p (name ∷ names) q))
-    × ((a ≡ box.Refused (refusal 19 0)) ↔ ((q : ℕ) → Carries r p (name ∷ names) q → ⊥))
+    × ((a ≡ box.Refused (refusal 19 0 0)) ↔ ((q : ℕ) → Carries r p (name ∷ names) q → ⊥))
 
 -- names-lead-where-it-reaches: the ways that carry names lead to the states that the product reaches, and to no others.
 abbrev pub NamesLeadWhereItReaches : Type 0
@@ -223,11 +223,11 @@ BoatFolds = (b : RunningBox) × Run dishText 2 folded b
 
 abbrev pub BoatStaysFolded : Type 0
 BoatStaysFolded =
-    (b : RunningBox) → Run dishText 2 folded b → Stands b (λ q. q ≡ 2) × ((name : List ℕ) → Acts dishText b name (box.Refused (refusal 19 0)) b)
+    (b : RunningBox) → Run dishText 2 folded b → Stands b (λ q. q ≡ 2) × ((name : List ℕ) → Acts dishText b name (box.Refused (refusal 19 0 0)) b)
 
 -- twelve-given: with the same sheet the set-up of product 0, neither gauge nor boat, is refused by 12.
 abbrev pub TwelveGiven : Type 0
-TwelveGiven = SetsUp dishText 0 (box.Refused (refusal 12 0)) nowhere
+TwelveGiven = SetsUp dishText 0 (box.Refused (refusal 12 0 0)) nowhere
 
 -- set-up-determined, act-determined: any two answers, with the boxes after them, that meet one promise are equal.
 abbrev pub SetUpDetermined : Type 0
@@ -252,12 +252,12 @@ BoxTableRefuses =
 
 -- set-up-refusals, act-refusals: the number of a refusal is 1 to 10; or it is 12 or, of an action, 19, each with line 0.
 abbrev pub SetUpRefusals : Type 0
-SetUpRefusals = (s : List ℕ) (p : ℕ) (q : Refusal) (b : RunningBox) → SetsUp s p (box.Refused q) b → ((1 ≤ q .number) × (q .number ≤ 10)) ⊎ (q ≡ refusal 12 0)
+SetUpRefusals = (s : List ℕ) (p : ℕ) (q : Refusal) (b : RunningBox) → SetsUp s p (box.Refused q) b → ((1 ≤ q .number) × (q .number ≤ 10)) ⊎ (q ≡ refusal 12 0 0)
 
 abbrev pub ActRefusals : Type 0
 ActRefusals =
     (s : List ℕ) (b : RunningBox) (name : List ℕ) (q : Refusal) (after : RunningBox) → Acts s b name (box.Refused q) after
-    → ((1 ≤ q .number) × (q .number ≤ 10)) ⊎ ((q ≡ refusal 12 0) ⊎ (q ≡ refusal 19 0))
+    → ((1 ≤ q .number) × (q .number ≤ 10)) ⊎ ((q ≡ refusal 12 0 0) ⊎ (q ≡ refusal 19 0 0))
 
 -- set-up-told, act-told: the row of the table, "0, done, 0" or the refusal's, tells the answer.
 abbrev pub SetUpTold : Type 0

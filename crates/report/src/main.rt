@@ -18,7 +18,7 @@ fn main() {
 
 // Lays the report into the room, or the line of the refusal; answers how many bytes that is.
 fn answer(sheet: &[u8], room: &mut [u8]) -> usize
-    requires { ⌜ 33 ≤ length (now room) ⌝ }
+    requires { ⌜ 54 ≤ length (now room) ⌝ }
     ensures { λ n. ⌜ Printed (ReportPromise (now (sheet .entry))) (now (room .entry)) (take n (now (room .exit))) ⌝ }
 {
     let a = calls::report(sheet, room);

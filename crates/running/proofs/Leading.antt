@@ -79,7 +79,7 @@ module _ (s : List ℕ) {r : Sheet} (e : readSheet s ≡ kept r) {p : ℕ} {name
   pub done-way : Acts s b name Done d → (q : ℕ) × Carries r p (name ∷ names) q
   done-way (t, f, w) = let y : Went r b name d = rw (same-sheet s f e) at w in (y .some .0, one-more (x .product) (x .place) (y .some .1))
 
-  pub refused-no-way : {q : Refusal} → Acts s b name (Refused q) d → (q ≡ refusal 19 0) × ((to : ℕ) → Carries r p (name ∷ names) to → ⊥)
+  pub refused-no-way : {q : Refusal} → Acts s b name (Refused q) d → (q ≡ refusal 19 0 0) × ((to : ℕ) → Carries r p (name ∷ names) to → ⊥)
   refused-no-way (k, inl f) = absurd (kept-refused s e f)
   refused-no-way (k, inr (t, f, inl n)) = absurd (not-both r (sym (x .product)) (x .valid) (rw (same-sheet s f e) at (n .invalid)))
   refused-no-way (k, inr (t, f, inr n)) = (n .nineteen, λ to c. n .nothing to (rw (same-sheet s f e) (last-one (x .product) (x .place) c)))

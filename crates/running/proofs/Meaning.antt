@@ -37,7 +37,7 @@ module _ {s : List ℕ} {T : Tables} {c : Counts} {r : Sheet} (good : Accepted r
 
   module _ {p : ℕ} {x : Bool} (tells : Tells x (In (T .valid) p)) where
     -- 12
-    not-valid : not x ≡ true → NotValid r p (refusal 12 0)
+    not-valid : not x ≡ true → NotValid r p (refusal 12 0 0)
     not-valid e = record { twelve = refl; invalid = at (isValid r p) refl }
       where
         at : (b : Bool) → isValid r p ≡ b → isValid r p ≡ false
@@ -110,7 +110,7 @@ module _ {s : List ℕ} {T : Tables} {c : Counts} {r : Sheet} (good : Accepted r
           g .every (z .0) q (omega (arith, z .1)) (omega (arith, good-move (good .moves) (e .listed) .to, e .to)) (from-end (z .0) e (z .2))
 
       -- 19
-      no-move : w ≡ 0 → NoMove r b name (refusal 19 0)
+      no-move : w ≡ 0 → NoMove r b name (refusal 19 0 0)
       no-move z = record { nineteen = refl; valid = v; nothing = λ q i. let y : bit 0 q ≡ 1 = rw z at (in-place q i) in omega (arith, zero-bit q) }
 
       -- gone on
@@ -134,7 +134,7 @@ module _ (s : List ℕ) {valid : List ℕ} {moves guards : List (List ℕ)} {c :
   good = accepted s (read .1)
 
   module _ {p : ℕ} {x : Bool} (tells : Tells x (In valid p)) where
-    pub set-up-refused : not x ≡ true → SetsUp s p (Refused (refusal 12 0)) nowhere
+    pub set-up-refused : not x ≡ true → SetsUp s p (Refused (refusal 12 0 0)) nowhere
     set-up-refused e = (refl, inr (read .0, read .1, not-valid good (read .2) tells e))
 
     pub set-up-done : not x ≡ false → {w : ℕ} → ((q : ℕ) → q < 64 → bit w q ≡ max (bit 0 q) (oneIf (eqb (c .start) q))) → w < 2 ^ 64
@@ -142,11 +142,11 @@ module _ (s : List ℕ) {valid : List ℕ} {moves guards : List (List ℕ)} {c :
     set-up-done e is l = (read .0, read .1, begun good (read .2) (is-valid good (read .2) tells e) is l)
 
   module _ (b : RunningBox) (name : List ℕ) {x : Bool} (tells : Tells x (In valid (b .product))) where
-    pub act-refused : not x ≡ true → Acts s b name (Refused (refusal 12 0)) b
+    pub act-refused : not x ≡ true → Acts s b name (Refused (refusal 12 0 0)) b
     act-refused e = (refl, inr (read .0, read .1, inl (not-valid good (read .2) tells e)))
 
     module _ (e : not x ≡ false) {w : ℕ} (g : Gathered (leadsAt s moves guards b name) (min (c .moves) 256) w) where
-      pub act-stayed : w ≡ 0 → Acts s b name (Refused (refusal 19 0)) b
+      pub act-stayed : w ≡ 0 → Acts s b name (Refused (refusal 19 0 0)) b
       act-stayed z = (refl, inr (read .0, read .1, inr (no-move good (read .2) (is-valid good (read .2) tells e) g z)))
 
       pub act-done : (w ≡ 0 → ⊥) → w < 2 ^ 64 → Acts s b name Done (record { product = b .product; place = w })

@@ -65,8 +65,8 @@ place-short w = simp length-append (omega (arith, states-short w 64 (omega arith
 pub place-told : {l l′ : List ℕ} {n : ℕ} (x : Called) → x .answer ≡ Done → Wrote l 0 (placeText (x .after .place)) l′ n → Told l l′ n x
 place-told x e w = record { laid = rw e w; whole = rw e (whole-in (place-short (x .after .place)) w) }
 
-pub refusal-told : {l l′ : List ℕ} {n : ℕ} (x : Called) (q : Refusal) → x .answer ≡ Refused q → Wrote l 0 (refusalText q) l′ n → q .number < 2 ^ 8 → q .line < 2 ^ 64 → Told l l′ n x
-refusal-told x q e w h g = record { laid = rw e w; whole = rw e (whole-in (omega (arith, refusal-short q h g)) w) }
+pub refusal-told : {l l′ : List ℕ} {n : ℕ} (x : Called) (q : Refusal) → x .answer ≡ Refused q → Wrote l 0 (refusalText q) l′ n → q .number < 2 ^ 8 → q .line < 2 ^ 64 → q .place < 2 ^ 64 → Told l l′ n x
+refusal-told x q e w h g f = record { laid = rw e w; whole = rw e (whole-in (omega (arith, refusal-short q h g f)) w) }
 
 -- what `put_called` promises determines room and length
 pub told-determined : {room x y : List ℕ} {m n : ℕ} {c : Called} → Told room x m c → Told room y n c → (x ≡ y) × (m ≡ n)

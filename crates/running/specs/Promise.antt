@@ -24,12 +24,12 @@ nowhere = record { product = 0; place = 0 }
 
 -- "12, the product isn't valid, line 0"
 pub record NotValid (r : Sheet) (p : ℕ) (q : Refusal) : Type 0 where
-  pub twelve : q ≡ refusal 12 0
+  pub twelve : q ≡ refusal 12 0 0
   pub invalid : isValid r p ≡ false
 
 -- "then 19, line 0, no state of the place makes a move of that name in this product, bad names included"
 pub record NoMove (r : Sheet) (b : RunningBox) (name : List ℕ) (q : Refusal) : Type 0 where
-  pub nineteen : q ≡ refusal 19 0
+  pub nineteen : q ≡ refusal 19 0 0
   pub valid : isValid r (b .product) ≡ true
   pub nothing : (to : ℕ) → Ends r b name to → ⊥
 

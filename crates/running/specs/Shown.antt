@@ -14,9 +14,9 @@ use Rattle.running.specs.declared.Answer.{Answer}
 use Rattle.running.specs.declared.Answer.the-variants.{Done, Refused}
 use Rattle.running.specs.declared.Called.{Called}
 
--- the row of the table, "0, done, 0" among them: number and line
+-- the row of the table, "0, done, 0" among them: number and line, and the place
 abbrev pub rowOf : Answer → Refusal
-rowOf Done = refusal 0 0
+rowOf Done = refusal 0 0 0
 rowOf (Refused q) = q
 
 -- a tab and the state q, if the place w has it

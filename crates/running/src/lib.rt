@@ -155,10 +155,14 @@ fn go(product: usize, place: u64) -> Called
 
 // By a number that speaks of no line.
 fn refuse(number: u8, b: RunningBox) -> Called
-    ensures { λ r. ⌜ r ≡ called (Answer.Refused (refusal number 0)) b ⌝ }
+    ensures { λ r. ⌜ r ≡ called (Answer.Refused (refusal number 0 0)) b ⌝ }
 {
     Called {
-        answer: Answer::Refused(Refusal { number, line: 0 }),
+        answer: Answer::Refused(Refusal {
+            number,
+            line: 0,
+            place: 0,
+        }),
         after: b,
     }
 }

@@ -10,7 +10,7 @@ returns : tie.Need-returns
 returns c = rw (c .before .a .given .1) (text refl)
 
 returns-2 : tie.Need-returns-2
-returns-2 c = rw (c .before .before .before .before .before .a2 .given .1) (line (c .before .before .put-refusal .ensures) (λ l. refusal-whole (c .before .before .put-refusal .ensures) (search needs) (search needs) l))
+returns-2 c = rw (c .before .before .before .before .before .a2 .given .1) (line (c .before .before .put-refusal .ensures) (λ l. refusal-whole (c .before .before .put-refusal .ensures) (search needs) (search needs) (search needs) l))
 
 pub put-answer-spec : {M : Type 1} → statement M
 put-answer-spec =

@@ -9,7 +9,7 @@ returns : tie.Need-returns
 returns c = place-told _ (c .before .before .before .before .enum-told .given .1) (c .before .before .put-place .ensures)
 
 returns-2 : tie.Need-returns-2
-returns-2 c = refusal-told _ _ (c .before .before .before .before .before .answer .given .1) (c .before .before .put-refusal .ensures) (search needs) (search needs)
+returns-2 c = refusal-told _ _ (c .before .before .before .before .before .answer .given .1) (c .before .before .put-refusal .ensures) (search needs) (search needs) (search needs)
 
 pub put-called-spec : {M : Type 1} → statement M
 put-called-spec =
