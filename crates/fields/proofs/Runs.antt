@@ -11,7 +11,7 @@ use Rattle.fields.proofs.Parts.{headed, part-none, part-snoc, part-over
 
 -- ---- from place to place
 
-run-more : (b : ℕ) (bs : List ℕ) → isNameByte b ≡ true → (run (b ∷ bs) ≡ b ∷ run bs) × (afterRun (b ∷ bs) ≡ afterRun bs)
+pub run-more : (b : ℕ) (bs : List ℕ) → isNameByte b ≡ true → (run (b ∷ bs) ≡ b ∷ run bs) × (afterRun (b ∷ bs) ≡ afterRun bs)
 unfolding run afterRun
 run-more b bs e = (ap (λ (t : Bool). cond t (b ∷ run bs) []) e, ap (λ (t : Bool). cond t (afterRun bs) (b ∷ bs)) e)
 
@@ -87,3 +87,15 @@ run-all (b ∷ x) rest e k =
     let l = run-more b (x ++ rest) (h .0) in
     let m = run-all x rest (h .1) k in
     (l .0 ∙ ap (λ (y : List ℕ). b ∷ y) (m .0), l .1 ∙ m .1)
+
+-- a run ends where it stops
+pub after-stops : (bs : List ℕ) → Stops (afterRun bs)
+unfolding afterRun
+after-stops [] = tt
+after-stops (b ∷ bs) = by-first (λ x y. Stops y) b bs (λ e. after-stops bs) (λ e. e)
+
+-- and is of name bytes
+pub run-names : (bs : List ℕ) → allNameBytes (run bs) ≡ true
+unfolding run allNameBytes
+run-names [] = refl
+run-names (b ∷ bs) = by-first (λ x y. allNameBytes x ≡ true) b bs (λ e. rw (e, run-names bs)) (λ e. refl)

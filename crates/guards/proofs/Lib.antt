@@ -2,7 +2,9 @@ pub mod Meanings
 pub mod Finding
 pub mod Names
 pub mod RoundTrip
+pub mod Faults
 pub mod Exactly
+pub mod Leftmost
 pub mod Steps
 pub mod Returns
 pub mod Laws

@@ -1,2 +1,3 @@
 pub mod Guard
 pub mod Reading
+pub mod Places

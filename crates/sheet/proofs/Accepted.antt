@@ -3,7 +3,7 @@
 use mathlib.Core.Path.{_≡_, refl, sym}
 use mathlib.Core.Bool.{Bool, true, false, not, _&&_, and-eq-true-iff, false≢true}
 use mathlib.Core.List.{List, [], _∷_, List·Memᴰ, List·Memᴰ·head, List·Memᴰ·tail}
-use Prim.Native.Nat.{ℕ, suc, _+_, _^_, _≤_, _<_}
+use Prim.Native.Nat.{ℕ, suc, _+_, _-_, _^_, _≤_, _<_}
 use native.Mathlib.Omega.{arith}
 use borrow.Author.Tests.{leb-true, leb-false, le-leb, not-false}
 use lib.Dec.{eqb, leb, ltb}
@@ -52,32 +52,45 @@ Told P a = Tells (λ q. InTable (q .number)) P a
 
 -- ---- what each test tells
 
+pub told-by : {A : Type 0} {R : Refusal → Type 0} {P : A → Type 0} {a : Answer A} (q : Refusal) (t : Bool) → (t ≡ true → R q) → (t ≡ false → Tells R P a)
+    → Tells R P (refuseIf t q a)
+told-by q true h f = refuses (h refl)
+told-by q false h f = f refl
+
 pub told-if : {A : Type 0} {R : Refusal → Type 0} {P : A → Type 0} {a : Answer A} (q : Refusal) (t : Bool) → R q → (t ≡ false → Tells R P a)
     → Tells R P (refuseIf t q a)
-told-if q true h f = refuses h
-told-if q false h f = f refl
+told-if q t h f = told-by q t (λ e. h) f
+
+module _ {R : Refusal → Type 0} {P : State → Type 0} (n p : ℕ) where
+  pub told-number : {k : ℕ → Answer State} (x : List ℕ) → (readState x ≡ Bad → R (refusal 4 n p)) → ((q : ℕ) → readState x ≡ Of q → Tells R P (k q))
+      → Tells R P (stated n p (readState x) k)
+  told-number {k} x bad f = go (readState x) refl
+    where
+      go : (o : Number) → readState x ≡ o → Tells R P (stated n p o k)
+      go Bad e = refuses (bad e)
+      go (Of q) e = f q e
+
+  pub told-outcome : {k : Guard → Answer State} (ns : List (List ℕ)) (x : List ℕ)
+      → ((e : ℕ) (from : List ℕ) → readWhole ns x ≡ faulty e from → R (refusal e n (p + (length x - length from))))
+      → ((g : Guard) (rest : List ℕ) → readWhole ns x ≡ took g rest → Tells R P (k g))
+      → Tells R P (guarded n p x (readWhole ns x) k)
+  told-outcome {k} ns x bad f = go (readWhole ns x) refl
+    where
+      go : (o : Outcome) → readWhole ns x ≡ o → Tells R P (guarded n p x o k)
+      go (faulty e from) q = refuses (bad e from q)
+      go (took g rest) q = f g rest q
 
 pub told-state : {P : State → Type 0} {k : ℕ → Answer State} (n p : ℕ) (x : List ℕ) → ((q : ℕ) → q ≤ 63 → x ≡ decimal q → Told P (k q))
     → Told P (stated n p (readState x) k)
-told-state {P} {k} n p x f = go (readState x) refl
-  where
-    go : (o : Number) → readState x ≡ o → Told P (stated n p o k)
-    go Bad e = refuses refl
-    go (Of q) e = f q (state-small x e) (state-written x e)
+told-state n p x f = told-number n p x (λ e. refl) (λ q e. f q (state-small x e) (state-written x e))
 
 pub told-guard : {P : State → Type 0} {k : Guard → Answer State} (n p : ℕ) (fs : List Feature) (x : List ℕ)
     → ((g : Guard) → GoodGuard (length fs) g → x ≡ print g (names fs) [] → Told P (k g))
     → Told P (guarded n p x (readWhole (names fs) x) k)
-told-guard {P} {k} n p fs x f = go (readWhole (names fs) x) refl
-  where
-    go : (o : Outcome) → readWhole (names fs) x ≡ o → Told P (guarded n p x o k)
-    go (faulty e bs) q =
-        let h = whole-faulty (names fs) x q in
-        let i : InTable e = rw (le-leb 1 e (omega (arith, h .0)), le-leb e 10 (omega (arith, h .1))) in
-        refuses i
-    go (took g rest) q =
-        let h = whole-exactly (names fs) x q in
-        f g (record { declared = rw (names-length fs) at (h .2); nested = h .3 }) (h .1)
+told-guard n p fs x f =
+    told-outcome n p (names fs) x
+    (λ e from q. let h = whole-faulty (names fs) x q in rw (le-leb 1 e (omega (arith, h .0)), le-leb e 10 (omega (arith, h .1))))
+    (λ g rest q. let h = whole-exactly (names fs) x q in f g (record { declared = rw (names-length fs) at (h .2); nested = h .3 }) (h .1))
 
 -- ---- what the lines so far keep
 
@@ -202,7 +215,7 @@ module _ (n at : ℕ) (st : State) (sound : Sound st) where
       by-kind (st .section) w (λ k. Told Sound (byKind k n at st fs)) (λ e x. fts-told (omega arith) (asOne fs)) (λ e x. feature-told (omega arith) (asOne fs))
       (λ e x. valid-told (asOne fs)) (λ e x. start-told (asOne fs)) (λ e x. stop-told (asTwo fs)) (λ e x. move-told (asFour fs)) (refuses refl)
 
-word-told : (n at : ℕ) (st : State) → Sound st → (fs : List (List ℕ)) → Told Sound (byWord n at st fs)
+pub word-told : (n at : ℕ) (st : State) → Sound st → (fs : List (List ℕ)) → Told Sound (byWord n at st fs)
 word-told n at st sound [] = refuses refl
 word-told n at st sound (w ∷ fs) = kind-told n (at + length w + 1) st sound w fs
 

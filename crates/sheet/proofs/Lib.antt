@@ -14,3 +14,4 @@ pub mod Spelled
 pub mod Moves
 pub mod Weights
 pub mod Whole
+pub mod Places

@@ -21,21 +21,11 @@ use Rattle.sheet.specs.declared.LineKind.the-variants as kind
 use Rattle.sheet.specs.Sheet.{Sheet, names, isValid}
 use Rattle.sheet.specs.Reading.{State, Answer, kept, refused, placeBehind, stated, guarded, isKnown, moved, stopped, featureWord, validWord, startWord, moveWord, stopWord, editionWord, ftsLine, featureLine, guardIn, validLine, startLine, guardedMove, moveLine, stopLine, kindIn, byKind, byWord, readLine, none, ended, readLines, nothing, last, readSheet}
 use Rattle.sheet.specs.Numbered.{MovesTo, StopsTo, LinesTo}
-use Rattle.sheet.proofs.Accepted.{Tells, keeps, refuses, told-kept, told-refused, told-if, told-on}
+use Rattle.sheet.proofs.Accepted.{Tells, keeps, refuses, told-kept, told-refused, told-if, told-number, told-outcome, told-on}
 
 -- an answer that is refused at a line of at most b, or kept with the property P
 abbrev Numbered : {A : Type 0} → (A → Type 0) → ℕ → Answer A → Type 0
 Numbered P b a = Tells (λ q. q .line ≤ b) P a
-
-numbered-state : {P : State → Type 0} {b : ℕ} {k : ℕ → Answer State} (n p : ℕ) (o : Number) → n ≤ b → ((q : ℕ) → Numbered P b (k q))
-    → Numbered P b (stated n p o k)
-numbered-state n p Bad h f = refuses h
-numbered-state n p (Of q) h f = f q
-
-numbered-guard : {P : State → Type 0} {b : ℕ} {k : Guard → Answer State} (n p : ℕ) (x : List ℕ) (o : Outcome) → n ≤ b → ((g : Guard) → Numbered P b (k g))
-    → Numbered P b (guarded n p x o k)
-numbered-guard n p x (faulty e bs) h f = refuses h
-numbered-guard n p x (took g rest) h f = f g
 
 -- ---- one line, and the end
 
@@ -63,32 +53,32 @@ module _ (b n : ℕ) (h : n ≤ b) (st : State) (old : StateTo b st) where
   valid-numbered : (x : One) → Numbered (StateTo b) b (validLine n st x)
   unfolding validLine
   valid-numbered notOne = refuses h
-  valid-numbered (only x) = numbered-guard n (placeBehind (validWord ∷ [])) x (guardIn st x) h (λ g. keeps (record { valid = h; moves = old .moves; stops = old .stops }))
+  valid-numbered (only x) = told-outcome n (placeBehind (validWord ∷ [])) (names (st .sheet .features)) x (λ e from f. h) (λ g rest f. keeps (record { valid = h; moves = old .moves; stops = old .stops }))
 
   start-numbered : (x : One) → Numbered (StateTo b) b (startLine n st x)
   unfolding startLine
   start-numbered notOne = refuses h
-  start-numbered (only x) = numbered-state n (placeBehind (startWord ∷ [])) (readState x) h (λ q. keeps (record { valid = old .valid; moves = old .moves; stops = old .stops }))
+  start-numbered (only x) = told-number n (placeBehind (startWord ∷ [])) x (λ e. h) (λ q e. keeps (record { valid = old .valid; moves = old .moves; stops = old .stops }))
 
   move-numbered : (at : ℕ) (x : Four) → Numbered (StateTo b) b (moveLine n at st x)
   unfolding moveLine guardedMove
   move-numbered at notFour = refuses h
   move-numbered at (four f a t g) =
       told-if (refusal 8 n 0) (leb 256 (length (st .sheet .moves))) h
-      (λ few. numbered-state n (placeBehind (moveWord ∷ [])) (readState f) h
-      (λ from. told-if (refusal 4 n (placeBehind (moveWord ∷ f ∷ []))) (not (isAction a)) h
-      (λ act. numbered-state n (placeBehind (moveWord ∷ f ∷ a ∷ [])) (readState t) h
-      (λ to. numbered-guard n (placeBehind (moveWord ∷ f ∷ a ∷ t ∷ [])) g (guardIn st g) h
-      (λ guard. told-if (refusal 9 n (placeBehind (moveWord ∷ []))) (moved from a to (st .sheet .moves)) h
+      (λ few. told-number n (placeBehind (moveWord ∷ [])) f (λ e. h)
+      (λ from e. told-if (refusal 4 n (placeBehind (moveWord ∷ f ∷ []))) (not (isAction a)) h
+      (λ act. told-number n (placeBehind (moveWord ∷ f ∷ a ∷ [])) t (λ e. h)
+      (λ to e. told-outcome n (placeBehind (moveWord ∷ f ∷ a ∷ t ∷ [])) (names (st .sheet .features)) g (λ e from q. h)
+      (λ guard rest q. told-if (refusal 9 n (placeBehind (moveWord ∷ []))) (moved from a to (st .sheet .moves)) h
       (λ new. keeps (record { valid = old .valid; moves = (h, old .moves); stops = old .stops })))))))
 
   stop-numbered : (x : Two) → Numbered (StateTo b) b (stopLine n st x)
   unfolding stopLine
   stop-numbered notTwo = refuses h
   stop-numbered (two q g) =
-      numbered-state n (placeBehind (stopWord ∷ [])) (readState q) h
-      (λ state. numbered-guard n (placeBehind (stopWord ∷ q ∷ [])) g (guardIn st g) h
-      (λ guard. told-if (refusal 9 n (placeBehind (stopWord ∷ []))) (stopped state (st .sheet .stops)) h
+      told-number n (placeBehind (stopWord ∷ [])) q (λ e. h)
+      (λ state e. told-outcome n (placeBehind (stopWord ∷ q ∷ [])) (names (st .sheet .features)) g (λ e from f. h)
+      (λ guard rest f. told-if (refusal 9 n (placeBehind (stopWord ∷ []))) (stopped state (st .sheet .stops)) h
       (λ new. keeps (record { valid = old .valid; moves = old .moves; stops = (h, old .stops) }))))
 
   kind-numbered : (at : ℕ) (fs : List (List ℕ)) (k : LineKind) → Numbered (StateTo b) b (byKind k n at st fs)

@@ -61,18 +61,18 @@ record Follows (st : State) (l : List ℕ) (u : State) : Type 0 where
 
 -- ---- how many fields there are
 
-by-one : (P : One → Type 0) (fs : Fields) → P notOne → ((x : List ℕ) → fs ≡ x ∷ [] → P (only x)) → P (asOne fs)
+pub by-one : (P : One → Type 0) (fs : Fields) → P notOne → ((x : List ℕ) → fs ≡ x ∷ [] → P (only x)) → P (asOne fs)
 by-one P [] p f = p
 by-one P (a ∷ []) p f = f a refl
 by-one P (a ∷ b ∷ cs) p f = p
 
-by-two : (P : Two → Type 0) (fs : Fields) → P notTwo → ((x y : List ℕ) → fs ≡ x ∷ y ∷ [] → P (two x y)) → P (asTwo fs)
+pub by-two : (P : Two → Type 0) (fs : Fields) → P notTwo → ((x y : List ℕ) → fs ≡ x ∷ y ∷ [] → P (two x y)) → P (asTwo fs)
 by-two P [] p f = p
 by-two P (a ∷ []) p f = p
 by-two P (a ∷ b ∷ []) p f = f a b refl
 by-two P (a ∷ b ∷ c ∷ ds) p f = p
 
-by-four : (P : Four → Type 0) (fs : Fields) → P notFour → ((x y z w : List ℕ) → fs ≡ x ∷ y ∷ z ∷ w ∷ [] → P (four x y z w)) → P (asFour fs)
+pub by-four : (P : Four → Type 0) (fs : Fields) → P notFour → ((x y z w : List ℕ) → fs ≡ x ∷ y ∷ z ∷ w ∷ [] → P (four x y z w)) → P (asFour fs)
 by-four P [] p f = p
 by-four P (a ∷ []) p f = p
 by-four P (a ∷ b ∷ []) p f = p

@@ -5,3 +5,4 @@ pub mod Inside
 pub mod Accepted
 pub mod Numbered
 pub mod Spelling
+pub mod Places

@@ -2,6 +2,7 @@
 -- nothing: these are definitions.
 use mathlib.Core.Bool.{false, cond}
 use mathlib.Core.List.{List, [], _∷_, _++_}
+use mathlib.Core.Logic.{_⊎_}
 use mathlib.Core.Path.{_≡_}
 use Prim.Native.Nat.{ℕ, _+_, _-_, _≤_}
 use lib.ListN.{length}
@@ -62,7 +63,7 @@ pub record AtLine (s : List ℕ) (q : Refusal) : Type 0 where
 -- place-told: a refusal is of the sheet as a whole (1, 2, 10, or 3 for a lacking line) and has place 0, or it is of a line, and the place is as told.
 abbrev pub PlaceTold : Type 0
 PlaceTold =
-    (s : List ℕ) {q : Refusal} → readSheet s ≡ refused q
+    (s : List ℕ) (q : Refusal) → readSheet s ≡ refused q
     → (((q .number ≡ 1) ⊎ ((q .number ≡ 2) ⊎ ((q .number ≡ 3) ⊎ (q .number ≡ 10)))) × (q .place ≡ 0)) ⊎ AtLine s q
 
 -- the bytes x begin at place p of the line l, counted from 1: `front` stands before them
