@@ -1,5 +1,5 @@
--- What a refusal of a call can be: the table's numbers, each given to a sheet of a few lines, and never the row "0, done, 0"; and that an input's first
--- 65,537 bytes are enough. A promise speaks of the text by `readSheet` alone, so each statement is one of `readSheet`; what holds for both calls with
+-- What a refusal of a call can be: the table's numbers, each given to a sheet of a few lines, and never the row "0, done, 0"; what stands at its place; and
+-- that an input's first 65,537 bytes are enough. A promise speaks of the text by `readSheet` alone, so each statement is one of `readSheet`; what holds for both calls with
 -- one room is proved once, for any text that a call may lay. Assumes nothing.
 use mathlib.Core.List.{List, [], _∷_, _++_}
 use mathlib.Core.Logic.{inl, inr, ⊎-elim}
@@ -21,6 +21,7 @@ use Rattle.sheet.specs.Reading.{kept, refused, ftsLine, featureLine, validLine,
 use Rattle.sheet.specs.Reading as reading
 use Rattle.sheet.proofs.Accepted.{refused-number, kept-refused}
 use Rattle.sheet.proofs.Whole.{read-long, read-empty}
+use Rattle.sheet.proofs.Places.{refused-byte, refused-field, refused-nowhere, refused-there, refused-place}
 use Rattle.reporting.specs.Report.{depthRow, IsReport}
 use Rattle.normal.specs.Clean.{IsClean}
 use Rattle.calls.specs.declared.Answer.{Answer}
@@ -29,7 +30,7 @@ use Rattle.calls.specs.declared.Answers.{Answers}
 use Rattle.calls.specs.declared.Answers.the-variants as two
 use Rattle.calls.specs.Promise.{TooLong, OneText, nothing, ReportPromise, cleanMost, CleanPromise, BothPromise}
 use Rattle.demands.specs.Printed.{onto, printed}
-use Rattle.demands.specs.Demands.{Refusals, BothRefusals, Told, BothTold, TableRefuses, RefusalsGiven, ElevenGiven, Cut, BothCut}
+use Rattle.demands.specs.Demands.{Refusals, BothRefusals, Told, BothTold, TableRefuses, RefusalsGiven, PlaceOfByte, PlaceOfField, NoPlace, PlaceWithin, ElevenGiven, Cut, BothCut}
 use Rattle.demands.proofs.Demands.{report-determined, clean-determined, both-determined}
 
 -- ---- the numbers
@@ -171,6 +172,18 @@ given (suc (suc (suc (suc (suc (suc (suc (suc (suc (suc (suc e))))))))))) l h = 
 
 pub refusals-given : RefusalsGiven
 refusals-given e l h = let (s, n, p, f) = given e l h in (s, refusal e n p, refl, f)
+
+pub place-of-byte : PlaceOfByte
+place-of-byte s q e = refused-byte s e
+
+pub place-of-field : PlaceOfField
+place-of-field s q e = refused-field s e
+
+pub no-place : NoPlace
+no-place s q e = refused-nowhere s e
+
+pub place-within : PlaceWithin
+place-within s q e = (refused-there s e, refused-place s e)
 
 pub table-refuses : TableRefuses
 table-refuses s q f = (

@@ -6,7 +6,7 @@ use mathlib.Core.Bool.{true}
 use mathlib.Core.List.{List, [], _∷_}
 use mathlib.Core.Logic.{_↔_, _⊎_}
 use mathlib.Core.Path.{_≡_}
-use Prim.Native.Nat.{ℕ, _≤_}
+use Prim.Native.Nat.{ℕ, _+_, _≤_}
 use lib.ListN.{length, take}
 use Rattle.refusals.specs.declared.Refusal.{Refusal}
 use Rattle.refusals.specs.Refusal.{refusal}
@@ -14,6 +14,7 @@ use Rattle.products.specs.Sets.{Least}
 use Rattle.guards.specs.Guard.{disj, feature, neg, chain, one as single}
 use Rattle.sheet.specs.Sheet.{Move, Sheet, names, isValid}
 use Rattle.sheet.specs.Reading.{kept, refused, readSheet}
+use Rattle.sheet.specs.Places.{LineOf, FieldThere, ByteThere}
 use Rattle.sheet.specs.Accepted.{Accepted}
 use Rattle.family.specs.Ways.{Reached, Depth}
 use Rattle.verdicts.specs.declared.Verdict.the-variants.{Must}
@@ -78,6 +79,25 @@ TableRefuses =
 -- refusals-given: each of 1 to 10 is given, to some sheet.
 abbrev pub RefusalsGiven : Type 0
 RefusalsGiven = (e : ℕ) → 1 ≤ e → e ≤ 10 → (s : List ℕ) × (q : Refusal) × (q .number ≡ e) × (readSheet s ≡ refused q)
+
+-- place-of-byte: "the place of the faulty byte, counted from 1 in its line". Of 5, 6 and 7 the leftmost faulty byte of a guard stands there, or its end.
+abbrev pub PlaceOfByte : Type 0
+PlaceOfByte = (s : List ℕ) (q : Refusal) → readSheet s ≡ refused q → 5 ≤ q .number → q .number ≤ 7 → ByteThere s q
+
+-- place-of-field: "Refusals 4 and 9 give where the field concerned begins, empty or not (for 9 on a move, of its from field)".
+abbrev pub PlaceOfField : Type 0
+PlaceOfField = (s : List ℕ) (q : Refusal) → readSheet s ≡ refused q → (q .number ≡ 4) ⊎ (q .number ≡ 9) → FieldThere s q
+
+-- no-place: "all others 0".
+abbrev pub NoPlace : Type 0
+NoPlace =
+    (s : List ℕ) (q : Refusal) → readSheet s ≡ refused q → (q .number ≡ 4 → ⊥) → (q .number ≡ 9 → ⊥) → (5 ≤ q .number → q .number ≤ 7 → ⊥) → q .place ≡ 0
+
+-- place-within: a place is at most one past its line's last byte, and so at most 65,537.
+abbrev pub PlaceWithin : Type 0
+PlaceWithin =
+    (s : List ℕ) (q : Refusal) → readSheet s ≡ refused q
+    → ((q .place ≡ 0) ⊎ ((l : LineOf s (q .line)) × (q .place ≤ length (l .line) + 1))) × (q .place ≤ 65537)
 
 -- eleven-given: so is 11, to every accepted sheet, in a room without a byte.
 abbrev pub ElevenGiven : Type 0
@@ -250,7 +270,7 @@ BoxTableRefuses =
     → ((p : ℕ) (a : BoxAnswer) (b : RunningBox) → SetsUp s p a b → (a ≡ box.Refused q) × (b ≡ nowhere))
     × ((b : RunningBox) (name : List ℕ) (a : BoxAnswer) (after : RunningBox) → Acts s b name a after → (a ≡ box.Refused q) × (after ≡ b))
 
--- set-up-refusals, act-refusals: the number of a refusal is 1 to 10; or it is 12 or, of an action, 19, each with line 0.
+-- set-up-refusals, act-refusals: the number of a refusal is 1 to 10; or it is 12 or, of an action, 19, each with line and place 0.
 abbrev pub SetUpRefusals : Type 0
 SetUpRefusals = (s : List ℕ) (p : ℕ) (q : Refusal) (b : RunningBox) → SetsUp s p (box.Refused q) b → ((1 ≤ q .number) × (q .number ≤ 10)) ⊎ (q ≡ refusal 12 0 0)
 

@@ -3,9 +3,9 @@
 ghost use Rattle.calls.specs.Promise.{ReportPromise, CleanPromise, BothPromise};
 ghost use Rattle.running.specs.Promise.{SetsUp, Acts};
 
-// Report promise: for every sheet and every room, refused with the table's number and line and every
-// byte of the room kept; or 11, every byte kept, exactly if the report is longer than the room; or done
-// with its length, the first bytes the report of this sheet and the rest kept.
+// Report promise: for every sheet and every room, refused with the table's number, line and place and
+// every byte of the room kept; or 11, every byte kept, exactly if the report is longer than the room; or
+// done with its length, the first bytes the report of this sheet and the rest kept.
 pub fn report_promise(text: &[u8], room: &mut [u8]) -> calls::Answer
     ensures { λ r. ⌜ ReportPromise (now (text .entry)) (now (room .entry)) (now (room .exit)) r ⌝ }
 {
@@ -28,9 +28,9 @@ pub fn both_promise(text: &[u8], room: &mut [u8], clean_room: &mut [u8]) -> call
     calls::report_and_clean(text, room, clean_room)
 }
 
-// Set-up promise: for every sheet and every number, refused with the table's number and line, or by 12 with
-// line 0, and the box has product 0 and an empty place; or done, and the box has this product and stands at
-// the start.
+// Set-up promise: for every sheet and every number, refused with the table's number, line and place, or by
+// 12 with line 0, and the box has product 0 and an empty place; or done, and the box has this product and
+// stands at the start.
 pub fn set_up_promise(text: &[u8], product: usize) -> running::Called
     ensures { λ r. ⌜ SetsUp (now (text .entry)) product (r .answer) (r .after) ⌝ }
 {
@@ -38,9 +38,9 @@ pub fn set_up_promise(text: &[u8], product: usize) -> running::Called
 }
 
 // Act promise: for every sheet, every box, made up by hand or not, and every name, refused with the table's
-// number and line, or by 12 or 19 with line 0, and the box is as it was; or done, and the box stands exactly
-// at the ends of that name's moves which its product makes from its place. The box is lent to `act_on` for
-// this, which promises the same of it.
+// number, line and place, or by 12 or 19 with line 0, and the box is as it was; or done, and the box stands
+// exactly at the ends of that name's moves which its product makes from its place. The box is lent to
+// `act_on` for this, which promises the same of it.
 pub fn act_promise(text: &[u8], b: running::RunningBox, action: &[u8]) -> running::Called
     ensures { λ r. ⌜ Acts (now (text .entry)) b (now (action .entry)) (r .answer) (r .after) ⌝ }
 {

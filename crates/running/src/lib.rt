@@ -23,6 +23,9 @@ pub struct RunningBox {
     pub place: u64,
 }
 
+// The empty place.
+const NO_STATES: u64 = 0;
+
 // What a call answers: done, or refused.
 pub enum Answer {
     Done,
@@ -140,7 +143,7 @@ fn no_box() -> RunningBox
 {
     RunningBox {
         product: 0,
-        place: 0,
+        place: NO_STATES,
     }
 }
 

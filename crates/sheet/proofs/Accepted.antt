@@ -215,7 +215,7 @@ module _ (n at : ℕ) (st : State) (sound : Sound st) where
       by-kind (st .section) w (λ k. Told Sound (byKind k n at st fs)) (λ e x. fts-told (omega arith) (asOne fs)) (λ e x. feature-told (omega arith) (asOne fs))
       (λ e x. valid-told (asOne fs)) (λ e x. start-told (asOne fs)) (λ e x. stop-told (asTwo fs)) (λ e x. move-told (asFour fs)) (refuses refl)
 
-pub word-told : (n at : ℕ) (st : State) → Sound st → (fs : List (List ℕ)) → Told Sound (byWord n at st fs)
+word-told : (n at : ℕ) (st : State) → Sound st → (fs : List (List ℕ)) → Told Sound (byWord n at st fs)
 word-told n at st sound [] = refuses refl
 word-told n at st sound (w ∷ fs) = kind-told n (at + length w + 1) st sound w fs
 
@@ -243,21 +243,29 @@ ended-told n st sound =
       allowed = some (isValid (st .sheet)) (2 ^ length (st .sheet .features)) found;
     })))
 
+pub line-told : (n at : ℕ) (st : State) → Sound st → (l : List ℕ) → Told Sound (readLine n at st l)
+unfolding readLine
+line-told n at st sound l = word-told n at st sound (fields l)
+
 lines-told : (ls : List (List ℕ)) (n at : ℕ) (st : State) → Sound st → Told Accepted (readLines n at st ls)
-unfolding readLines readLine
+unfolding readLines
 lines-told [] n at st sound = ended-told n st sound
-lines-told (l ∷ ls) n at st sound = told-on (word-told n at st sound (fields l)) (λ u. lines-told ls (n + 1) (at + length l + 1) u)
+lines-told (l ∷ ls) n at st sound = told-on (line-told n at st sound l) (λ u. lines-told ls (n + 1) (at + length l + 1) u)
+
+pub nothing-sound : Sound nothing
+unfolding names
+nothing-sound =
+    record {
+      early = λ u. (refl, refl, refl);
+      limits = record { few-features = omega arith; names = tt; valid = never-good 0; start = omega arith; few-moves = omega arith; moves = tt; stops = tt };
+    }
 
 sheet-told : (s : List ℕ) → Told Accepted (readSheet s)
-unfolding readSheet names
+unfolding readSheet
 sheet-told s =
     told-if (refusal 1 0 0) (ltb 65536 (length s)) refl
     (λ few. told-if (refusal 2 0 0) (not (eqb (last 0 s) 10)) refl
-    (λ ends. lines-told (lines s) 1 0 nothing
-    (record {
-      early = λ u. (refl, refl, refl);
-      limits = record { few-features = omega arith; names = tt; valid = never-good 0; start = omega arith; few-moves = omega arith; moves = tt; stops = tt };
-    })))
+    (λ ends. lines-told (lines s) 1 0 nothing nothing-sound))
 
 -- what is kept is within the limits, without repeats, and has a valid product
 pub accepted : (s : List ℕ) {r : Sheet} → readSheet s ≡ kept r → Accepted r

@@ -14,4 +14,5 @@ pub mod Spelled
 pub mod Moves
 pub mod Weights
 pub mod Whole
+pub mod Begins
 pub mod Places

@@ -10,16 +10,13 @@ use lib.Dec.{eqb, leb, ltb}
 use lib.ListN.{length}
 use Rattle.refusals.specs.declared.Refusal.{Refusal}
 use Rattle.refusals.specs.Refusal.{refusal}
-use Rattle.fields.specs.declared.Number.{Number}
-use Rattle.fields.specs.declared.Number.the-variants.{Of, Bad}
-use Rattle.fields.specs.Bytes.{sameBytes, isName, isAction, readState}
+use Rattle.fields.specs.Bytes.{sameBytes, isName, isAction}
 use Rattle.fields.specs.Cutting.{onto, cut, lines, fields, One, only, notOne, Two, two, notTwo, Four, four, notFour, asOne, asTwo, asFour}
-use Rattle.guards.specs.Guard.{Guard}
-use Rattle.guards.specs.Reading.{Outcome, took, faulty, number}
+use Rattle.guards.specs.Reading.{number}
 use Rattle.sheet.specs.declared.LineKind.{LineKind}
 use Rattle.sheet.specs.declared.LineKind.the-variants as kind
 use Rattle.sheet.specs.Sheet.{Sheet, names, isValid}
-use Rattle.sheet.specs.Reading.{State, Answer, kept, refused, placeBehind, stated, guarded, isKnown, moved, stopped, featureWord, validWord, startWord, moveWord, stopWord, editionWord, ftsLine, featureLine, guardIn, validLine, startLine, guardedMove, moveLine, stopLine, kindIn, byKind, byWord, readLine, none, ended, readLines, nothing, last, readSheet}
+use Rattle.sheet.specs.Reading.{State, Answer, kept, refused, placeBehind, isKnown, moved, stopped, featureWord, validWord, startWord, moveWord, stopWord, editionWord, ftsLine, featureLine, validLine, startLine, guardedMove, moveLine, stopLine, kindIn, byKind, byWord, readLine, none, ended, readLines, nothing, last, readSheet}
 use Rattle.sheet.specs.Numbered.{MovesTo, StopsTo, LinesTo}
 use Rattle.sheet.proofs.Accepted.{Tells, keeps, refuses, told-kept, told-refused, told-if, told-number, told-outcome, told-on}
 

@@ -1,30 +1,50 @@
 -- What stands at the place of a refusal: each line that is refused tells it, each that is kept adds the name that it declares, and so the refusal of a
 -- whole sheet tells it of its line. Assumes nothing.
 use mathlib.Core.Path.{_≡_, refl, sym, ap, _∙_}
-use mathlib.Core.Bool.{Bool, true, false, cond, not}
+use mathlib.Core.Bool.{Bool, true, false, not, _&&_, _||_, false≢true}
 use mathlib.Core.List.{List, [], _∷_, _++_, append-assoc}
-use mathlib.Core.Logic.{inl, inr}
+use mathlib.Core.Logic.{_⊎_, inl, inr, ⊎-elim}
 use Prim.Native.Nat.{ℕ, suc, _+_, _-_, _^_, _≤_}
 use native.Mathlib.Omega.{arith}
-use borrow.Author.Tests.{not-true}
+use native.Mathlib.Nat.{eq-zero-or-pos}
+use borrow.Author.Tests.{not-true, ne-eqb, le-leb}
 use lib.Dec.{eqb, leb, ltb}
 use lib.ListN.{length, length-append}
 use Rattle.refusals.specs.declared.Refusal.{Refusal}
 use Rattle.refusals.specs.Refusal.{refusal}
-use Rattle.fields.specs.declared.Number.{Number}
-use Rattle.fields.specs.declared.Number.the-variants.{Of, Bad}
-use Rattle.fields.specs.Bytes.{sameBytes, isName, isAction, readState}
-use Rattle.fields.specs.Cutting.{lines, fields, join, One, only, notOne, Two, two, notTwo, Four, four, notFour, asOne, asTwo, asFour}
-use Rattle.fields.proofs.Cuts.{join-fields}
-use Rattle.guards.specs.Guard.{Guard}
-use Rattle.guards.specs.Reading.{Outcome, took, faulty, number, readWhole, GoodNames}
+use Rattle.fields.specs.Bytes.{sameBytes, isName, isAction}
+use Rattle.fields.specs.Cutting.{onto, cut, lines, fields, asOne, asTwo, asFour}
+use Rattle.guards.specs.Reading.{faulty, number, readWhole, GoodNames}
+use Rattle.guards.proofs.Exactly.{whole-faulty}
+use Rattle.guards.proofs.Leftmost.{leftmost-faulty}
 use Rattle.sheet.specs.Sheet.{Sheet, names, isValid}
-use Rattle.sheet.specs.Reading.{State, Answer, kept, refused, placeBehind, stated, guarded, isKnown, moved, stopped, ftsWord, featureWord, validWord, startWord, moveWord, stopWord, editionWord, ftsLine, featureLine, guardIn, validLine, startLine, guardedMove, moveLine, stopLine, kindIn, byKind, byWord, readLine, none, ended, readLines, nothing, last, readSheet}
-use Rattle.sheet.specs.Places.{Concerned, Behind, Placed, field, byte, nowhere, declaring, declaredIn, AtLine, PlaceTold, Stands}
+use Rattle.sheet.specs.Reading.{State, Answer, kept, refused, placeBehind, isKnown, moved, stopped, ftsWord, featureWord, validWord, startWord, moveWord, stopWord, editionWord, ftsLine, featureLine, validLine, startLine, guardedMove, moveLine, stopLine, kindIn, byKind, byWord, readLine, none, ended, readLines, nothing, last, readSheet}
+use Rattle.sheet.specs.Places.{LineOf, Behind, Concerned, FieldThere, declaring, declaredIn, ByteThere}
 use Rattle.sheet.specs.Places as places
 use Rattle.sheet.proofs.LineKinds.{by-kind}
-use Rattle.sheet.proofs.Accepted.{Tells, keeps, refuses, told-kept, told-refused, told-by, told-if, told-number, told-outcome, told-on, Sound, word-told}
+use Rattle.sheet.proofs.Accepted.{Tells, keeps, refuses, told-kept, told-refused, told-by, told-if, told-number, told-outcome, told-on, Sound, line-told, nothing-sound}
 use Rattle.sheet.proofs.Spelled.{by-one, by-two, by-four}
+use Rattle.sheet.proofs.Whole.{read-long}
+use Rattle.sheet.proofs.Begins.{field-stands, field-begins, stands-within, within-line}
+
+-- ---- what a refusal speaks of
+
+-- the numbers that come with a place
+abbrev hasPlace : ℕ → Bool
+hasPlace e = (eqb e 4 || eqb e 9) || (leb 5 e && leb e 7)
+
+-- a refusal of the line l, whose number is n, over the names declared above it
+data Placed (names : List (List ℕ)) (n : ℕ) (l : List ℕ) : Refusal → Type 0 where
+  field : {e : ℕ} {before : List (List ℕ)} {x : List ℕ} → Concerned e before x → Behind l before x → Placed names n l (refusal e n (placeBehind before))
+  byte : {e : ℕ} {before : List (List ℕ)} {x from : List ℕ} → Behind l before x → readWhole names x ≡ faulty e from
+      → Placed names n l (refusal e n (placeBehind before + (length x - length from)))
+  nowhere : {e : ℕ} → hasPlace e ≡ false → Placed names n l (refusal e n 0)
+
+-- of a sheet with these lines: the sheet as a whole, or one of its lines
+data Speaks (ls : List (List ℕ)) : Refusal → Type 0 where
+  of-all : {e n : ℕ} → hasPlace e ≡ false → Speaks ls (refusal e n 0)
+  of-line : {q : Refusal} (above : List (List ℕ)) (line : List ℕ) (below : List (List ℕ)) → ls ≡ above ++ line ∷ below
+      → GoodNames (declaredIn above []) → Placed (declaredIn above []) (length above + 1) line q → Speaks ls q
 
 -- ---- one line
 
@@ -40,13 +60,13 @@ other-word w (x ∷ y ∷ fs) ns e = refl
 
 module _ (n at : ℕ) (st : State) (l w : List ℕ) (fs : List (List ℕ)) (is : fields l ≡ w ∷ fs) where
   abbrev Line : Answer State → Type 0
-  Line a = Tells (Placed (names (st .sheet .features)) l) (Declares (w ∷ fs) (names (st .sheet .features))) a
+  Line a = Tells (Placed (names (st .sheet .features)) n l) (Declares (w ∷ fs) (names (st .sheet .features))) a
 
-  unknown : Placed (names (st .sheet .features)) l (refusal 3 n 0)
-  unknown = nowhere (inl refl)
+  unknown : Placed (names (st .sheet .features)) n l (refusal 3 n 0)
+  unknown = nowhere refl
 
-  many : Placed (names (st .sheet .features)) l (refusal 8 n 0)
-  many = nowhere (inr refl)
+  many : Placed (names (st .sheet .features)) n l (refusal 8 n 0)
+  many = nowhere refl
 
   behind : {before : List (List ℕ)} {x : List ℕ} (after : List (List ℕ)) → w ∷ fs ≡ before ++ x ∷ after → Behind l before x
   behind after e = record { after = after; is = is ∙ e }
@@ -118,28 +138,174 @@ module _ (n at : ℕ) (st : State) (l w : List ℕ) (fs : List (List ℕ)) (is :
       (λ e. stop-placed) (λ e. move-placed) (refuses unknown)
 
 line-placed : (n at : ℕ) (st : State) (l : List ℕ)
-    → Tells (Placed (names (st .sheet .features)) l) (Declares (fields l) (names (st .sheet .features))) (readLine n at st l)
+    → Tells (Placed (names (st .sheet .features)) n l) (Declares (fields l) (names (st .sheet .features))) (readLine n at st l)
 unfolding readLine
 line-placed n at st l = go (fields l) refl
   where
-    go : (fs : List (List ℕ)) → fields l ≡ fs → Tells (Placed (names (st .sheet .features)) l) (Declares fs (names (st .sheet .features))) (byWord n at st fs)
-    go [] e = refuses (nowhere (inl refl))
+    go : (fs : List (List ℕ)) → fields l ≡ fs → Tells (Placed (names (st .sheet .features)) n l) (Declares fs (names (st .sheet .features))) (byWord n at st fs)
+    go [] e = refuses (nowhere refl)
     go (w ∷ fs) e = kind-placed n (at + length w + 1) st l w fs e
 
--- ---- the field begins there
+-- ---- all lines
 
--- the bytes of some fields with their tabs, before those that follow
-unfoldable tabbed : List (List ℕ) → List ℕ
-tabbed [] = []
-tabbed (f ∷ fs) = f ++ (9 ∷ tabbed fs)
+-- what the lines so far declare, and one line more
+declared-more : (ls : List (List ℕ)) (l : List ℕ) (ns : List (List ℕ)) → declaredIn (ls ++ l ∷ []) ns ≡ declaring (fields l) (declaredIn ls ns)
+unfolding declaredIn
+declared-more [] l ns = refl
+declared-more (k ∷ ls) l ns = declared-more ls l (declaring (fields k) ns)
 
-tabbed-join : (before : List (List ℕ)) (x : List ℕ) (after : List (List ℕ)) → join (before ++ x ∷ after) ≡ tabbed before ++ join (x ∷ after)
-unfolding tabbed join
-tabbed-join [] x after = refl
-tabbed-join (f ∷ []) x after = sym (append-assoc f (9 ∷ []) (join (x ∷ after)))
-tabbed-join (f ∷ g ∷ fs) x after = rw (tabbed-join (g ∷ fs) x after) (sym (append-assoc f (9 ∷ tabbed (g ∷ fs)) (join (x ∷ after))))
+tells-both : {A : Type 0} {R S : Refusal → Type 0} {P Q : A → Type 0} {a : Answer A} → Tells R P a → Tells S Q a → Tells R (λ x. P x × Q x) a
+tells-both (keeps p) t = keeps (p, told-kept t refl)
+tells-both (refuses h) t = refuses h
 
-tabbed-length : (fs : List (List ℕ)) → length (tabbed fs) + 1 ≡ placeBehind fs
-unfolding tabbed
-tabbed-length [] = refl
-tabbed-length (f ∷ fs) = omega (arith, length-append f (9 ∷ tabbed fs), tabbed-length fs)
+tells-as : {A : Type 0} {R S : Refusal → Type 0} {P : A → Type 0} {a : Answer A} → ((q : Refusal) → R q → S q) → Tells R P a → Tells S P a
+tells-as f (keeps p) = keeps p
+tells-as f (refuses {q = q} h) = refuses (f q h)
+
+ended-spoken : (ls : List (List ℕ)) (n : ℕ) (st : State) → Tells (Speaks ls) (λ (r : Sheet). Unit {0}) (ended n st)
+unfolding ended
+ended-spoken ls n st =
+    told-if (refusal 3 n 0) (ltb (st .section) 3) (of-all refl)
+    (λ late. told-if (refusal 10 (st .validLine) 0) (none (isValid (st .sheet)) (2 ^ length (st .sheet .features))) (of-all refl) (λ found. keeps tt))
+
+-- behind the lines above, whose names the state has
+lines-spoken : (ls all above : List (List ℕ)) (n at : ℕ) (st : State) → Sound st → all ≡ above ++ ls → n ≡ length above + 1
+    → names (st .sheet .features) ≡ declaredIn above [] → Tells (Speaks all) (λ (r : Sheet). Unit {0}) (readLines n at st ls)
+unfolding readLines
+lines-spoken [] all above n at st sound are here known = ended-spoken all n st
+lines-spoken (l ∷ ls) all above n at st sound are here known =
+    told-on (tells-as spoken (tells-both (line-placed n at st l) (line-told n at st sound l)))
+    (λ u h. lines-spoken ls all (above ++ l ∷ []) (n + 1) (at + length l + 1) u (h .1) (are ∙ sym (append-assoc above (l ∷ []) ls))
+    (omega (arith, length-append above (l ∷ [])))
+    (h .0 .is ∙ ap (declaring (fields l)) known ∙ sym (declared-more above l [])))
+  where
+    spoken : (q : Refusal) → Placed (names (st .sheet .features)) n l q → Speaks all q
+    spoken q p = of-line above l ls are (rw known at (sound .limits .names)) (rw (known, here) at p)
+
+sheet-spoken : (s : List ℕ) → Tells (Speaks (lines s)) (λ (r : Sheet). Unit {0}) (readSheet s)
+unfolding readSheet declaredIn names
+sheet-spoken s =
+    told-if (refusal 1 0 0) (ltb 65536 (length s)) (of-all refl)
+    (λ few. told-if (refusal 2 0 0) (not (eqb (last 0 s) 10)) (of-all refl)
+    (λ ends. lines-spoken (lines s) (lines s) [] 1 0 nothing nothing-sound refl refl refl))
+
+-- ---- of whole sheets
+
+-- what a refusal says, by its number
+data Said (s : List ℕ) (q : Refusal) : Type 0 where
+  said-field : (q .number ≡ 4) ⊎ (q .number ≡ 9) → FieldThere s q → Said s q
+  said-byte : 5 ≤ q .number → q .number ≤ 7 → ByteThere s q → Said s q
+  said-nowhere : hasPlace (q .number) ≡ false → q .place ≡ 0 → Said s q
+
+concerned-number : {e : ℕ} {before : List (List ℕ)} {x : List ℕ} → Concerned e before x → (e ≡ 4) ⊎ (e ≡ 9)
+concerned-number (places.name h) = inl refl
+concerned-number (places.start h) = inl refl
+concerned-number (places.from h) = inl refl
+concerned-number (places.action h) = inl refl
+concerned-number (places.to h) = inl refl
+concerned-number (places.stop h) = inl refl
+concerned-number places.same-name = inr refl
+concerned-number places.same-move = inr refl
+concerned-number places.same-stop = inr refl
+
+module _ (s : List ℕ) (above : List (List ℕ)) (line : List ℕ) (below : List (List ℕ)) (are : lines s ≡ above ++ line ∷ below) (good : GoodNames (declaredIn above [])) where
+  of-it : LineOf s (length above + 1)
+  of-it = record { above = above; line = line; below = below; are = are; numbered = refl }
+
+  line-said : {q : Refusal} → Placed (declaredIn above []) (length above + 1) line q → Said s q
+  unfolding of-it
+  line-said (field {before = before} {x = x} c b) =
+      said-field (concerned-number c) (record { of = of-it; before = before; field = x; behind = b; concerned = c; begins = field-begins line before x b })
+  line-said (byte {e} {before} {x} {from} b f) =
+      let (low, high, (y, parted)) = whole-faulty (declaredIn above []) x f in
+      said-byte low high
+      (record {
+        of = of-it;
+        before = before;
+        field = x;
+        behind = b;
+        from = from;
+        leftmost = leftmost-faulty (declaredIn above []) good x e from f;
+        begins = stands-within (field-stands line before x b) y from parted;
+      })
+  line-said (nowhere e) = said-nowhere e refl
+
+said : (s : List ℕ) {q : Refusal} → Speaks (lines s) q → Said s q
+said s (of-all e) = said-nowhere e refl
+said s (of-line above line below are good p) = line-said s above line below are good p
+
+module _ (s : List ℕ) {q : Refusal} (e : readSheet s ≡ refused q) where
+  it-says : Said s q
+  it-says = said s (told-refused (sheet-spoken s) e)
+
+  -- 4 and 9: the field concerned begins at the place
+  pub refused-field : (q .number ≡ 4) ⊎ (q .number ≡ 9) → FieldThere s q
+  refused-field h = go it-says
+    where
+      go : Said s q → FieldThere s q
+      go (said-field k f) = f
+      go (said-byte l m f) = absurd (⊎-elim (λ z. omega arith) (λ z. omega arith) h)
+      go (said-nowhere z p) = absurd (⊎-elim (λ k. false≢true (sym z ∙ ap hasPlace k)) (λ k. false≢true (sym z ∙ ap hasPlace k)) h)
+
+  -- 5 to 7: the leftmost faulty byte of a field stands there
+  pub refused-byte : 5 ≤ q .number → q .number ≤ 7 → ByteThere s q
+  refused-byte l m = go it-says
+    where
+      go : Said s q → ByteThere s q
+      go (said-field k f) = absurd (⊎-elim (λ z. omega arith) (λ z. omega arith) k)
+      go (said-byte l m f) = f
+      go (said-nowhere z p) =
+          let t : hasPlace (q .number) ≡ true = rw (ne-eqb (q .number) 4 (λ k. omega arith), ne-eqb (q .number) 9 (λ k. omega arith), le-leb 5 (q .number) l, le-leb (q .number) 7 m) in
+          absurd (false≢true (sym z ∙ t))
+
+  -- "all others 0"
+  pub refused-nowhere : (q .number ≡ 4 → ⊥) → (q .number ≡ 9 → ⊥) → (5 ≤ q .number → q .number ≤ 7 → ⊥) → q .place ≡ 0
+  refused-nowhere four nine between = go it-says
+    where
+      go : Said s q → q .place ≡ 0
+      go (said-field k f) = absurd (⊎-elim four nine k)
+      go (said-byte l m f) = absurd (between l m)
+      go (said-nowhere z p) = p
+
+  -- a place is at most one past its line's last byte
+  pub refused-there : (q .place ≡ 0) ⊎ ((l : LineOf s (q .line)) × (q .place ≤ length (l .line) + 1))
+  refused-there = go it-says
+    where
+      go : Said s q → (q .place ≡ 0) ⊎ ((l : LineOf s (q .line)) × (q .place ≤ length (l .line) + 1))
+      go (said-field k f) = inr (f .of, within-line (f .begins .stands))
+      go (said-byte l m f) = inr (f .of, within-line (f .begins))
+      go (said-nowhere z p) = inl p
+
+-- ---- a place is a small number: no line is longer than its sheet
+
+abbrev AllTo : ℕ → List (List ℕ) → Type 0
+AllTo k [] = Unit {0}
+AllTo k (l ∷ ls) = (length l ≤ k) × AllTo k ls
+
+to-more : (k : ℕ) (ls : List (List ℕ)) → AllTo k ls → AllTo (suc k) ls
+to-more k [] h = tt
+to-more k (l ∷ ls) h = (omega (arith, h .0), to-more k ls (h .1))
+
+onto-to : (k : ℕ) (t : Bool) (b : ℕ) (ls : List (List ℕ)) → AllTo k ls → AllTo (suc k) (onto t b ls)
+onto-to k true b ls h = (omega arith, to-more k ls h)
+onto-to k false b [] h = (omega arith, tt)
+onto-to k false b (l ∷ ls) h = (omega (arith, h .0), to-more k ls (h .1))
+
+lines-to : (s : List ℕ) → AllTo (length s) (lines s)
+unfolding cut
+lines-to [] = tt
+lines-to (b ∷ s) = onto-to (length s) (eqb b 10) b (lines s) (lines-to s)
+
+to-this : (k : ℕ) (above : List (List ℕ)) (l : List ℕ) (below : List (List ℕ)) → AllTo k (above ++ l ∷ below) → length l ≤ k
+to-this k [] l below h = h .0
+to-this k (x ∷ above) l below h = to-this k above l below (h .1)
+
+line-to : (s : List ℕ) {n : ℕ} (l : LineOf s n) → length (l .line) ≤ length s
+line-to s l = to-this (length s) (l .above) (l .line) (l .below) (rw (l .are) at (lines-to s))
+
+-- a refusal's place
+pub refused-place : (s : List ℕ) {q : Refusal} → readSheet s ≡ refused q → q .place ≤ 65537
+refused-place s {q} e =
+    ⊎-elim (λ (short : length s - 65536 ≡ 0). ⊎-elim (λ z. omega arith) (λ h. omega (arith, h .1, line-to s (h .0))) (refused-there s e))
+    (λ long. let f = read-long s (omega arith) in let z : refusal 1 0 0 ≡ q = cc in omega (arith, ap (λ (p : Refusal). p .place) z))
+    (eq-zero-or-pos (length s - 65536))

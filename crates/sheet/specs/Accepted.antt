@@ -1,5 +1,5 @@
 -- What every accepted sheet is: the limits of the format, no repeats, and a valid product. Assumes nothing: these are definitions.
-use mathlib.Core.Bool.{Bool, true, false}
+use mathlib.Core.Bool.{true, false}
 use mathlib.Core.List.{List, [], _∷_}
 use mathlib.Core.Path.{_≡_}
 use Prim.Native.Nat.{ℕ, _≤_}

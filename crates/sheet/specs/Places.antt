@@ -1,20 +1,48 @@
--- What stands at the place of a refusal. The definition of reading (Reading) gives the place; here stands what it says of the sheet's bytes. Assumes
--- nothing: these are definitions.
+-- What stands at the place of a refusal, told by the sheet's lines and bytes; the definition of reading (Reading) computes the place. Assumes nothing:
+-- these are definitions.
 use mathlib.Core.Bool.{false, cond}
 use mathlib.Core.List.{List, [], _∷_, _++_}
 use mathlib.Core.Logic.{_⊎_}
 use mathlib.Core.Path.{_≡_}
-use Prim.Native.Nat.{ℕ, _+_, _-_, _≤_}
+use Prim.Native.Nat.{ℕ, _+_}
 use lib.ListN.{length}
 use Rattle.refusals.specs.declared.Refusal.{Refusal}
-use Rattle.refusals.specs.Refusal.{refusal}
 use Rattle.fields.specs.declared.Number.the-variants.{Bad}
 use Rattle.fields.specs.Bytes.{sameBytes, isName, isAction, readState}
 use Rattle.fields.specs.Cutting.{lines, fields, Clear}
-use Rattle.guards.specs.Reading.{faulty, readWhole, GoodNames}
-use Rattle.sheet.specs.Reading.{Answer, refused, placeBehind, featureWord, startWord, moveWord, stopWord, readSheet}
+use Rattle.guards.specs.Places.{Leftmost}
+use Rattle.sheet.specs.Reading.{featureWord, startWord, moveWord, stopWord}
 
--- "where the field concerned begins, empty or not (for 9 on a move, of its from field)": by the number, the fields before it and the field itself
+-- line n of the sheet s, "counted from 1", with the lines above and below it
+pub record LineOf (s : List ℕ) (n : ℕ) : Type 0 where
+  pub above : List (List ℕ)
+  pub line : List ℕ
+  pub below : List (List ℕ)
+  pub are : lines s ≡ above ++ line ∷ below
+  pub numbered : n ≡ length above + 1
+
+-- the bytes x begin at place p of the line l, "counted from 1 in its line"
+pub record StandsAt (l x : List ℕ) (p : ℕ) : Type 0 where
+  pub front : List ℕ
+  pub rest : List ℕ
+  pub is : l ≡ front ++ (x ++ rest)
+  pub place : p ≡ length front + 1
+
+-- of the fields of the line l, x stands behind these
+pub record Behind (l : List ℕ) (before : List (List ℕ)) (x : List ℕ) : Type 0 where
+  pub after : List (List ℕ)
+  pub is : fields l ≡ before ++ x ∷ after
+
+-- the field x begins at place p of the line l: with the line or behind a tab; it has no tab, and ends with the line or before a tab
+pub record FieldAt (l x : List ℕ) (p : ℕ) : Type 0 where
+  pub stands : StandsAt l x p
+  pub opened : (stands .front ≡ []) ⊎ ((y : List ℕ) × (stands .front ≡ y ++ 9 ∷ []))
+  pub clear : Clear 9 x
+  pub closed : (stands .rest ≡ []) ⊎ ((y : List ℕ) × (stands .rest ≡ 9 ∷ y))
+
+-- ---- 4 and 9
+
+-- "where the field concerned begins, empty or not (for 9 on a move, of its from field)": the number, the fields before that one, and the field itself
 pub data Concerned : ℕ → List (List ℕ) → List ℕ → Type 0 where
   name : {x : List ℕ} → isName x ≡ false → Concerned 4 (featureWord ∷ []) x
   start : {x : List ℕ} → readState x ≡ Bad → Concerned 4 (startWord ∷ []) x
@@ -26,18 +54,16 @@ pub data Concerned : ℕ → List (List ℕ) → List ℕ → Type 0 where
   same-move : {x : List ℕ} → Concerned 9 (moveWord ∷ []) x
   same-stop : {x : List ℕ} → Concerned 9 (stopWord ∷ []) x
 
--- of the fields of the line l, x stands behind these
-pub record Behind (l : List ℕ) (before : List (List ℕ)) (x : List ℕ) : Type 0 where
-  pub after : List (List ℕ)
-  pub is : fields l ≡ before ++ x ∷ after
+-- at the refusal's line and place the field concerned begins
+pub record FieldThere (s : List ℕ) (q : Refusal) : Type 0 where
+  pub of : LineOf s (q .line)
+  pub before : List (List ℕ)
+  pub field : List ℕ
+  pub behind : Behind (of .line) before field
+  pub concerned : Concerned (q .number) before field
+  pub begins : FieldAt (of .line) field (q .place)
 
--- the place of a refusal of the line l, over the names declared above it: of 4 and 9 the field concerned begins there; of 5 to 7 it is the byte of a
--- guard from which on the guard's reader finds fault; "all others 0"
-pub data Placed (names : List (List ℕ)) (l : List ℕ) : Refusal → Type 0 where
-  field : {e n : ℕ} {before : List (List ℕ)} {x : List ℕ} → Concerned e before x → Behind l before x → Placed names l (refusal e n (placeBehind before))
-  byte : {e n : ℕ} {before : List (List ℕ)} {x from : List ℕ} → Behind l before x → readWhole names x ≡ faulty e from
-      → Placed names l (refusal e n (placeBehind before + (length x - length from)))
-  nowhere : {e n : ℕ} → (e ≡ 3) ⊎ (e ≡ 8) → Placed names l (refusal e n 0)
+-- ---- 5, 6 and 7
 
 -- the names declared in these lines, the last first, before those in ns
 abbrev pub declaring : List (List ℕ) → List (List ℕ) → List (List ℕ)
@@ -50,25 +76,13 @@ unfoldable pub declaredIn : List (List ℕ) → List (List ℕ) → List (List �
 declaredIn [] ns = ns
 declaredIn (l ∷ ls) ns = declaredIn ls (declaring (fields l) ns)
 
--- the line that a refusal of the sheet s speaks of, and its place there
-pub record AtLine (s : List ℕ) (q : Refusal) : Type 0 where
-  pub above : List (List ℕ)
-  pub line : List ℕ
-  pub below : List (List ℕ)
-  pub are : lines s ≡ above ++ line ∷ below
-  pub numbered : q .line ≡ length above + 1
-  pub good : GoodNames (declaredIn above [])
-  pub placed : Placed (declaredIn above []) line q
-
--- place-told: a refusal is of the sheet as a whole (1, 2, 10, or 3 for a lacking line) and has place 0, or it is of a line, and the place is as told.
-abbrev pub PlaceTold : Type 0
-PlaceTold =
-    (s : List ℕ) (q : Refusal) → readSheet s ≡ refused q
-    → (((q .number ≡ 1) ⊎ ((q .number ≡ 2) ⊎ ((q .number ≡ 3) ⊎ (q .number ≡ 10)))) × (q .place ≡ 0)) ⊎ AtLine s q
-
--- the bytes x begin at place p of the line l, counted from 1: `front` stands before them
-pub record Stands (l x : List ℕ) (p : ℕ) : Type 0 where
-  pub front : List ℕ
-  pub rest : List ℕ
-  pub is : l ≡ front ++ (x ++ rest)
-  pub place : p ≡ length front + 1
+-- "the place of the faulty byte": from it on the line goes on as a field of it does, and it is that field's leftmost faulty byte over the names declared
+-- above; "a guard that ends too soon gives the place one past its last byte"
+pub record ByteThere (s : List ℕ) (q : Refusal) : Type 0 where
+  pub of : LineOf s (q .line)
+  pub before : List (List ℕ)
+  pub field : List ℕ
+  pub behind : Behind (of .line) before field
+  pub from : List ℕ
+  pub leftmost : Leftmost (declaredIn (of .above) []) field (q .number) from
+  pub begins : StandsAt (of .line) from (q .place)

@@ -1,8 +1,7 @@
 -- Reading a sheet: lines, then fields, then meanings, by the table of refusals. Assumes nothing: these are definitions.
 use mathlib.Core.Bool.{Bool, true, false, cond, not, _&&_, _||_}
 use mathlib.Core.List.{List, [], _∷_}
-use mathlib.Core.Path.{_≡_}
-use Prim.Native.Nat.{ℕ, zero, suc, _+_, _-_, _^_, _≤_, _<_}
+use Prim.Native.Nat.{ℕ, zero, suc, _+_, _-_, _^_}
 use lib.Dec.{eqb, leb, ltb}
 use lib.ListN.{length}
 use Rattle.refusals.specs.declared.Refusal.{Refusal}
@@ -11,7 +10,7 @@ use Rattle.fields.specs.declared.Number.{Number}
 use Rattle.fields.specs.declared.Number.the-variants.{Of, Bad}
 use Rattle.fields.specs.Bytes.{sameBytes, isName, isAction, readState}
 use Rattle.fields.specs.Cutting.{lines, fields, One, only, notOne, Two, two, notTwo, Four, four, notFour, asOne, asTwo, asFour}
-use Rattle.guards.specs.Guard.{Guard, never, holds}
+use Rattle.guards.specs.Guard.{Guard, never}
 use Rattle.guards.specs.Reading.{Outcome, took, faulty, number, readWhole}
 use Rattle.products.specs.declared.Found.{Found}
 use Rattle.products.specs.declared.Found.the-variants.{At, Nothing}
