@@ -127,10 +127,11 @@ module _ (n : List (List ℕ)) (good : GoodNames n) where
   )
 
   -- a fault of a field
-  leftmost : (x : List ℕ) {e : ℕ} {from : List ℕ} → WholeFault n x e from → Leftmost n x e from
+  leftmost : (x : List ℕ) {e : ℕ} {from : List ℕ} → readWhole n x ≡ faulty e from → WholeFault n x e from → Leftmost n x e from
   unfolding readWhole
-  leftmost x (faulted {e} {from} h) =
+  leftmost x z (faulted {e} {from} h) =
       record {
+        refused = z;
         before = before h;
         parted = parted h;
         completed = let r = completes h in (r .0 ++ [], r .1 [] .0, ap alone (r .1 [] .1));
@@ -138,15 +139,16 @@ module _ (n : List (List ℕ)) (good : GoodNames n) where
         named = λ q cs s. ap alone (stays h (run from ++ cs) (same-run from cs (numbered h) q s)) ∙ ap (λ (k : ℕ). faulty k (run from ++ cs)) q;
         ended = numbered h .ended;
       }
-  leftmost x (trailing {b} {g} {rest} h) =
+  leftmost x z (trailing {b} {g} {rest} h) =
       record {
+        refused = z;
         before = print g n [];
         parted = printed-parted h;
         completed = ([], g, ap alone (read-again h [] (λ q. tt)));
-        stays = λ c bs q i cs. let z : c ≡ b = cc in rw z (ap alone (read-again h (b ∷ cs) (h .apart)));
+        stays = λ c bs q i cs. let y : c ≡ b = cc in rw y (ap alone (read-again h (b ∷ cs) (h .apart)));
         named = λ q. absurd (omega arith);
         ended = λ q. refl;
       }
 
 pub leftmost-faulty : LeftmostFaulty
-leftmost-faulty n good x e from q = leftmost n good x (subst (JudgedWhole n x) q (judged-whole n x))
+leftmost-faulty n good x e from q = leftmost n good x q (subst (JudgedWhole n x) q (judged-whole n x))

@@ -8,8 +8,9 @@ use Rattle.guards.specs.Guard.{Guard}
 use Rattle.guards.specs.Reading.{took, faulty, readWhole, GoodNames}
 
 -- "In a guard the leftmost faulty byte decides; a name is judged at its first byte, and a guard that ends too soon is 5." Of a field x, refused by e,
--- `from` are the bytes from the faulty one on, and n the declared names:
+-- `from` are the bytes from the faulty one on, none where it ends too soon; n are the declared names.
 pub record Leftmost (n : List (List ℕ)) (x : List ℕ) (e : ℕ) (from : List ℕ) : Type 0 where
+  pub refused : readWhole n x ≡ faulty e from
   -- the bytes before the place
   pub before : List ℕ
   pub parted : x ≡ before ++ from

@@ -19,13 +19,13 @@ use Rattle.guards.proofs.Exactly.{whole-faulty}
 use Rattle.guards.proofs.Leftmost.{leftmost-faulty}
 use Rattle.sheet.specs.Sheet.{Sheet, names, isValid}
 use Rattle.sheet.specs.Reading.{State, Answer, kept, refused, placeBehind, isKnown, moved, stopped, ftsWord, featureWord, validWord, startWord, moveWord, stopWord, editionWord, ftsLine, featureLine, validLine, startLine, guardedMove, moveLine, stopLine, kindIn, byKind, byWord, readLine, none, ended, readLines, nothing, last, readSheet}
-use Rattle.sheet.specs.Places.{LineOf, Behind, Concerned, FieldThere, declaring, declaredIn, ByteThere}
+use Rattle.sheet.specs.Places.{LineOf, FieldAt, Concerned, FieldThere, declaring, declaredIn, ByteThere}
 use Rattle.sheet.specs.Places as places
 use Rattle.sheet.proofs.LineKinds.{by-kind}
 use Rattle.sheet.proofs.Accepted.{Tells, keeps, refuses, told-kept, told-refused, told-by, told-if, told-number, told-outcome, told-on, Sound, line-told, nothing-sound}
 use Rattle.sheet.proofs.Spelled.{by-one, by-two, by-four}
 use Rattle.sheet.proofs.Whole.{read-long}
-use Rattle.sheet.proofs.Begins.{field-stands, field-begins, stands-within, within-line}
+use Rattle.sheet.proofs.Begins.{field-begins, field-ends}
 
 -- ---- what a refusal speaks of
 
@@ -35,8 +35,8 @@ hasPlace e = (eqb e 4 || eqb e 9) || (leb 5 e && leb e 7)
 
 -- a refusal of the line l, whose number is n, over the names declared above it
 data Placed (names : List (List ℕ)) (n : ℕ) (l : List ℕ) : Refusal → Type 0 where
-  field : {e : ℕ} {before : List (List ℕ)} {x : List ℕ} → Concerned e before x → Behind l before x → Placed names n l (refusal e n (placeBehind before))
-  byte : {e : ℕ} {before : List (List ℕ)} {x from : List ℕ} → Behind l before x → readWhole names x ≡ faulty e from
+  field : {e : ℕ} {before : List (List ℕ)} {x : List ℕ} → Concerned e before x → FieldAt l before x (placeBehind before) → Placed names n l (refusal e n (placeBehind before))
+  byte : {e : ℕ} {before : List (List ℕ)} {x from : List ℕ} → FieldAt l before x (placeBehind before) → readWhole names x ≡ faulty e from
       → Placed names n l (refusal e n (placeBehind before + (length x - length from)))
   nowhere : {e : ℕ} → hasPlace e ≡ false → Placed names n l (refusal e n 0)
 
@@ -68,8 +68,8 @@ module _ (n at : ℕ) (st : State) (l w : List ℕ) (fs : List (List ℕ)) (is :
   many : Placed (names (st .sheet .features)) n l (refusal 8 n 0)
   many = nowhere refl
 
-  behind : {before : List (List ℕ)} {x : List ℕ} (after : List (List ℕ)) → w ∷ fs ≡ before ++ x ∷ after → Behind l before x
-  behind after e = record { after = after; is = is ∙ e }
+  behind : {before : List (List ℕ)} {x : List ℕ} (after : List (List ℕ)) → w ∷ fs ≡ before ++ x ∷ after → FieldAt l before x (placeBehind before)
+  behind {before} {x} after e = field-begins l before x after (is ∙ e)
 
   no-name : {v : List ℕ} {u : State} → w ≡ v → sameBytes v featureWord ≡ false → names (u .sheet .features) ≡ names (st .sheet .features)
       → Declares (w ∷ fs) (names (st .sheet .features)) u
@@ -86,7 +86,7 @@ module _ (n at : ℕ) (st : State) (l w : List ℕ) (fs : List (List ℕ)) (is :
   feature-placed ew =
       by-one (λ o. Line (featureLine n at st o)) fs (refuses unknown)
       (λ x ef. let whole : w ∷ fs ≡ featureWord ∷ x ∷ [] = rw (ew, ef) in
-      let b : Behind l (featureWord ∷ []) x = behind [] whole in
+      let b : FieldAt l (featureWord ∷ []) x (placeBehind (featureWord ∷ [])) = behind [] whole in
       told-if (refusal 8 n 0) (leb 10 (length (st .sheet .features))) many
       (λ few. told-by (refusal 4 n (placeBehind (featureWord ∷ []))) (not (isName x)) (λ t. field (places.name (not-true (isName x) t)) b)
       (λ good. told-if (refusal 9 n (placeBehind (featureWord ∷ []))) (isKnown (number (names (st .sheet .features)) x)) (field places.same-name b)
@@ -110,7 +110,7 @@ module _ (n at : ℕ) (st : State) (l w : List ℕ) (fs : List (List ℕ)) (is :
   unfolding moveLine guardedMove sameBytes
   move-placed ew =
       by-four (λ o. Line (moveLine n at st o)) fs (refuses unknown)
-      (λ f a t g ef. let b : Behind l (moveWord ∷ []) f = behind (a ∷ t ∷ g ∷ []) (rw (ew, ef)) in
+      (λ f a t g ef. let b : FieldAt l (moveWord ∷ []) f (placeBehind (moveWord ∷ [])) = behind (a ∷ t ∷ g ∷ []) (rw (ew, ef)) in
       told-if (refusal 8 n 0) (leb 256 (length (st .sheet .moves))) many
       (λ few. told-number n (placeBehind (moveWord ∷ [])) f (λ e. field (places.from e) b)
       (λ from ff. told-by (refusal 4 n (placeBehind (moveWord ∷ f ∷ []))) (not (isAction a))
@@ -125,7 +125,7 @@ module _ (n at : ℕ) (st : State) (l w : List ℕ) (fs : List (List ℕ)) (is :
   unfolding stopLine sameBytes
   stop-placed ew =
       by-two (λ o. Line (stopLine n st o)) fs (refuses unknown)
-      (λ q g ef. let b : Behind l (stopWord ∷ []) q = behind (g ∷ []) (rw (ew, ef)) in
+      (λ q g ef. let b : FieldAt l (stopWord ∷ []) q (placeBehind (stopWord ∷ [])) = behind (g ∷ []) (rw (ew, ef)) in
       told-number n (placeBehind (stopWord ∷ [])) q (λ e. field (places.stop e) b)
       (λ state small. told-outcome n (placeBehind (stopWord ∷ q ∷ [])) (names (st .sheet .features)) g
       (λ e rest f. byte {before = stopWord ∷ q ∷ []} (behind [] (rw (ew, ef))) f)
@@ -214,19 +214,20 @@ module _ (s : List ℕ) (above : List (List ℕ)) (line : List ℕ) (below : Lis
 
   line-said : {q : Refusal} → Placed (declaredIn above []) (length above + 1) line q → Said s q
   unfolding of-it
-  line-said (field {before = before} {x = x} c b) =
-      said-field (concerned-number c) (record { of = of-it; before = before; field = x; behind = b; concerned = c; begins = field-begins line before x b })
+  line-said (field {before = before} {x = x} c b) = said-field (concerned-number c) (record { of = of-it; before = before; field = x; concerned = c; begins = b })
   line-said (byte {e} {before} {x} {from} b f) =
-      let (low, high, (y, parted)) = whole-faulty (declaredIn above []) x f in
+      let (low, high, r) = whole-faulty (declaredIn above []) x f in
+      let h = leftmost-faulty (declaredIn above []) good x e from f in
       said-byte low high
       (record {
         of = of-it;
         before = before;
         field = x;
-        behind = b;
+        p = placeBehind before;
+        begins = b;
         from = from;
-        leftmost = leftmost-faulty (declaredIn above []) good x e from f;
-        begins = stands-within (field-stands line before x b) y from parted;
+        leftmost = h;
+        there = let k : length x ≡ length (h .before) + length from = ap length (h .parted) ∙ length-append (h .before) from in omega arith;
       })
   line-said (nowhere e) = said-nowhere e refl
 
@@ -272,8 +273,11 @@ module _ (s : List ℕ) {q : Refusal} (e : readSheet s ≡ refused q) where
   refused-there = go it-says
     where
       go : Said s q → (q .place ≡ 0) ⊎ ((l : LineOf s (q .line)) × (q .place ≤ length (l .line) + 1))
-      go (said-field k f) = inr (f .of, within-line (f .begins .stands))
-      go (said-byte l m f) = inr (f .of, within-line (f .begins))
+      go (said-field k f) = inr (f .of, omega (arith, field-ends (f .begins)))
+      go (said-byte l m f) =
+          let there = f .there in
+          let k : length (f .field) ≡ length (f .leftmost .before) + length (f .from) = ap length (f .leftmost .parted) ∙ length-append (f .leftmost .before) (f .from) in
+          inr (f .of, omega (arith, field-ends (f .begins)))
       go (said-nowhere z p) = inl p
 
 -- ---- a place is a small number: no line is longer than its sheet

@@ -2,14 +2,13 @@
 -- these are definitions.
 use mathlib.Core.Bool.{false, cond}
 use mathlib.Core.List.{List, [], _∷_, _++_}
-use mathlib.Core.Logic.{_⊎_}
 use mathlib.Core.Path.{_≡_}
 use Prim.Native.Nat.{ℕ, _+_}
 use lib.ListN.{length}
 use Rattle.refusals.specs.declared.Refusal.{Refusal}
 use Rattle.fields.specs.declared.Number.the-variants.{Bad}
 use Rattle.fields.specs.Bytes.{sameBytes, isName, isAction, readState}
-use Rattle.fields.specs.Cutting.{lines, fields, Clear}
+use Rattle.fields.specs.Cutting.{lines, fields}
 use Rattle.guards.specs.Places.{Leftmost}
 use Rattle.sheet.specs.Reading.{featureWord, startWord, moveWord, stopWord}
 
@@ -21,24 +20,18 @@ pub record LineOf (s : List ℕ) (n : ℕ) : Type 0 where
   pub are : lines s ≡ above ++ line ∷ below
   pub numbered : n ≡ length above + 1
 
--- the bytes x begin at place p of the line l, "counted from 1 in its line"
-pub record StandsAt (l x : List ℕ) (p : ℕ) : Type 0 where
-  pub front : List ℕ
-  pub rest : List ℕ
-  pub is : l ≡ front ++ (x ++ rest)
-  pub place : p ≡ length front + 1
+-- the bytes of these fields, each with its tab
+unfoldable pub tabbed : List (List ℕ) → List ℕ
+tabbed [] = []
+tabbed (f ∷ fs) = f ++ (9 ∷ tabbed fs)
 
--- of the fields of the line l, x stands behind these
-pub record Behind (l : List ℕ) (before : List (List ℕ)) (x : List ℕ) : Type 0 where
+-- in the line l the field x stands behind these, and begins at place p, "counted from 1 in its line"
+pub record FieldAt (l : List ℕ) (before : List (List ℕ)) (x : List ℕ) (p : ℕ) : Type 0 where
   pub after : List (List ℕ)
-  pub is : fields l ≡ before ++ x ∷ after
-
--- the field x begins at place p of the line l: with the line or behind a tab; it has no tab, and ends with the line or before a tab
-pub record FieldAt (l x : List ℕ) (p : ℕ) : Type 0 where
-  pub stands : StandsAt l x p
-  pub opened : (stands .front ≡ []) ⊎ ((y : List ℕ) × (stands .front ≡ y ++ 9 ∷ []))
-  pub clear : Clear 9 x
-  pub closed : (stands .rest ≡ []) ⊎ ((y : List ℕ) × (stands .rest ≡ 9 ∷ y))
+  pub cut : fields l ≡ before ++ x ∷ after
+  pub rest : List ℕ
+  pub is : l ≡ tabbed before ++ (x ++ rest)
+  pub place : p ≡ length (tabbed before) + 1
 
 -- ---- 4 and 9
 
@@ -59,9 +52,8 @@ pub record FieldThere (s : List ℕ) (q : Refusal) : Type 0 where
   pub of : LineOf s (q .line)
   pub before : List (List ℕ)
   pub field : List ℕ
-  pub behind : Behind (of .line) before field
   pub concerned : Concerned (q .number) before field
-  pub begins : FieldAt (of .line) field (q .place)
+  pub begins : FieldAt (of .line) before field (q .place)
 
 -- ---- 5, 6 and 7
 
@@ -76,13 +68,14 @@ unfoldable pub declaredIn : List (List ℕ) → List (List ℕ) → List (List �
 declaredIn [] ns = ns
 declaredIn (l ∷ ls) ns = declaredIn ls (declaring (fields l) ns)
 
--- "the place of the faulty byte": from it on the line goes on as a field of it does, and it is that field's leftmost faulty byte over the names declared
--- above; "a guard that ends too soon gives the place one past its last byte"
+-- "the place of the faulty byte": a field of the refusal's line begins at place p, and behind p as many bytes as stand in the field before its leftmost
+-- faulty one, over the names declared above. So "a guard that ends too soon gives the place one past its last byte"
 pub record ByteThere (s : List ℕ) (q : Refusal) : Type 0 where
   pub of : LineOf s (q .line)
   pub before : List (List ℕ)
   pub field : List ℕ
-  pub behind : Behind (of .line) before field
+  pub p : ℕ
+  pub begins : FieldAt (of .line) before field p
   pub from : List ℕ
   pub leftmost : Leftmost (declaredIn (of .above) []) field (q .number) from
-  pub begins : StandsAt (of .line) from (q .place)
+  pub there : q .place ≡ p + length (leftmost .before)

@@ -3,7 +3,7 @@
 // behind the line's word and tab, and `at` its place in the text.
 ghost use mathlib.Core.Path.{_≡_};
 ghost use mathlib.Core.List.{List};
-ghost use Prim.Native.Nat.{ℕ, _+_, _*_, _≤_, _<_, min};
+ghost use Prim.Native.Nat.{ℕ, _+_, _*_, _^_, _≤_, _<_, min};
 ghost use lib.ListN.{length};
 ghost use Rattle.refusals.specs.Refusal.{refusal};
 ghost use Rattle.fields.specs.Bytes.{part};
@@ -128,7 +128,7 @@ fn refuse(number: u8, line: usize, place: usize) -> LineRead
 
 // A guard's refusal as its line's: `field` is where the guard begins in its line.
 fn refuse_guard(read: GuardRead, line: usize, field: usize) -> LineRead
-    requires { ⌜ ((e at : ℕ) → read ≡ GuardRead.Refused e at → field + at < 18446744073709551616) ⌝ }
+    requires { ⌜ ((e at : ℕ) → read ≡ GuardRead.Refused e at → field + at < 2 ^ 64) ⌝ }
     ensures { λ r. ⌜ ((e at : ℕ) → read ≡ GuardRead.Refused e at → r ≡ LineRead.Refused (refusal e line (field + at))) ⌝ }
 {
     match read {
@@ -328,8 +328,8 @@ fn read_triple(
     }
 }
 
-// A move whose states and action are good: its guard, which begins at place `guard_place` of the line and is laid
-// straight into the next row of guards, then whether it is a repeat, then its row.
+// A move whose states and action are good: its guard, which begins at `guard_place` in the line and is
+// laid straight into the next row of guards, then whether it is a repeat, then its row.
 fn keep_move(
     text: &[u8],
     line: usize,
