@@ -22,6 +22,7 @@ use Rattle.sheet.specs.Reading as reading
 use Rattle.sheet.proofs.Accepted.{refused-number, kept-refused}
 use Rattle.sheet.proofs.Whole.{read-long, read-empty}
 use Rattle.sheet.proofs.Places.{refused-byte, refused-field, refused-nowhere, refused-there, refused-place}
+use Rattle.sheet.proofs.OnePlace.{byte-place, field-place}
 use Rattle.reporting.specs.Report.{depthRow, IsReport}
 use Rattle.normal.specs.Clean.{IsClean}
 use Rattle.calls.specs.declared.Answer.{Answer}
@@ -30,7 +31,7 @@ use Rattle.calls.specs.declared.Answers.{Answers}
 use Rattle.calls.specs.declared.Answers.the-variants as two
 use Rattle.calls.specs.Promise.{TooLong, OneText, nothing, ReportPromise, cleanMost, CleanPromise, BothPromise}
 use Rattle.demands.specs.Printed.{onto, printed}
-use Rattle.demands.specs.Demands.{Refusals, BothRefusals, Told, BothTold, TableRefuses, RefusalsGiven, PlaceOfByte, PlaceOfField, NoPlace, PlaceWithin, ElevenGiven, Cut, BothCut}
+use Rattle.demands.specs.Demands.{Refusals, BothRefusals, Told, BothTold, TableRefuses, RefusalsGiven, PlaceOfByte, PlaceOfField, NoPlace, PlaceWithin, PlaceDetermined, ElevenGiven, Cut, BothCut}
 use Rattle.demands.proofs.Demands.{report-determined, clean-determined, both-determined}
 
 -- ---- the numbers
@@ -184,6 +185,9 @@ no-place s q e = refused-nowhere s e
 
 pub place-within : PlaceWithin
 place-within s q e = (refused-there s e, refused-place s e)
+
+pub place-determined : PlaceDetermined
+place-determined s q r n = (byte-place s n, λ e. field-place s e n)
 
 pub table-refuses : TableRefuses
 table-refuses s q f = (

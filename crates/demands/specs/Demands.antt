@@ -88,7 +88,7 @@ PlaceOfByte = (s : List ℕ) (q : Refusal) → readSheet s ≡ refused q → 5 �
 abbrev pub PlaceOfField : Type 0
 PlaceOfField = (s : List ℕ) (q : Refusal) → readSheet s ≡ refused q → (q .number ≡ 4) ⊎ (q .number ≡ 9) → FieldThere s q
 
--- no-place: "all others 0".
+-- no-place: "all others 0", of the sheet's own refusals. Those of the calls say it themselves: `refusal 11 0 0`, and so on.
 abbrev pub NoPlace : Type 0
 NoPlace =
     (s : List ℕ) (q : Refusal) → readSheet s ≡ refused q → (q .number ≡ 4 → ⊥) → (q .number ≡ 9 → ⊥) → (5 ≤ q .number → q .number ≤ 7 → ⊥) → q .place ≡ 0
@@ -98,6 +98,12 @@ abbrev pub PlaceWithin : Type 0
 PlaceWithin =
     (s : List ℕ) (q : Refusal) → readSheet s ≡ refused q
     → ((q .place ≡ 0) ⊎ ((l : LineOf s (q .line)) × (q .place ≤ length (l .line) + 1))) × (q .place ≤ 65537)
+
+-- place-determined: what is told of a place leaves one. A line has one place for 5 to 7, and one each for 4 and 9.
+abbrev pub PlaceDetermined : Type 0
+PlaceDetermined =
+    (s : List ℕ) (q r : Refusal) → q .line ≡ r .line
+    → (ByteThere s q → ByteThere s r → q .place ≡ r .place) × (q .number ≡ r .number → FieldThere s q → FieldThere s r → q .place ≡ r .place)
 
 -- eleven-given: so is 11, to every accepted sheet, in a room without a byte.
 abbrev pub ElevenGiven : Type 0

@@ -29,8 +29,8 @@ pub fn both_promise(text: &[u8], room: &mut [u8], clean_room: &mut [u8]) -> call
 }
 
 // Set-up promise: for every sheet and every number, refused with the table's number, line and place, or by
-// 12 with line 0, and the box has product 0 and an empty place; or done, and the box has this product and
-// stands at the start.
+// 12 with line and place 0, and the box has product 0 and an empty place; or done, and the box has this
+// product and stands at the start.
 pub fn set_up_promise(text: &[u8], product: usize) -> running::Called
     ensures { λ r. ⌜ SetsUp (now (text .entry)) product (r .answer) (r .after) ⌝ }
 {
@@ -38,9 +38,9 @@ pub fn set_up_promise(text: &[u8], product: usize) -> running::Called
 }
 
 // Act promise: for every sheet, every box, made up by hand or not, and every name, refused with the table's
-// number, line and place, or by 12 or 19 with line 0, and the box is as it was; or done, and the box stands
-// exactly at the ends of that name's moves which its product makes from its place. The box is lent to
-// `act_on` for this, which promises the same of it.
+// number, line and place, or by 12 or 19 with line and place 0, and the box is as it was; or done, and the
+// box stands exactly at the ends of that name's moves which its product makes from its place. The box is
+// lent to `act_on` for this, which promises the same of it.
 pub fn act_promise(text: &[u8], b: running::RunningBox, action: &[u8]) -> running::Called
     ensures { λ r. ⌜ Acts (now (text .entry)) b (now (action .entry)) (r .answer) (r .after) ⌝ }
 {

@@ -156,7 +156,7 @@ fn go(product: usize, place: u64) -> Called
     }
 }
 
-// By a number that speaks of no line.
+// By a number that speaks of no line and no place.
 fn refuse(number: u8, b: RunningBox) -> Called
     ensures { λ r. ⌜ r ≡ called (Answer.Refused (refusal number 0 0)) b ⌝ }
 {

@@ -16,3 +16,4 @@ pub mod Weights
 pub mod Whole
 pub mod Begins
 pub mod Places
+pub mod OnePlace

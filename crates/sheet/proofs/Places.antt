@@ -7,7 +7,7 @@ use mathlib.Core.Logic.{_⊎_, inl, inr, ⊎-elim}
 use Prim.Native.Nat.{ℕ, suc, _+_, _-_, _^_, _≤_}
 use native.Mathlib.Omega.{arith}
 use native.Mathlib.Nat.{eq-zero-or-pos}
-use borrow.Author.Tests.{not-true, ne-eqb, le-leb}
+use borrow.Author.Tests.{not-true, not-false, ne-eqb, le-leb}
 use lib.Dec.{eqb, leb, ltb}
 use lib.ListN.{length, length-append}
 use Rattle.refusals.specs.declared.Refusal.{Refusal}
@@ -19,7 +19,7 @@ use Rattle.guards.proofs.Exactly.{whole-faulty}
 use Rattle.guards.proofs.Leftmost.{leftmost-faulty}
 use Rattle.sheet.specs.Sheet.{Sheet, names, isValid}
 use Rattle.sheet.specs.Reading.{State, Answer, kept, refused, placeBehind, isKnown, moved, stopped, ftsWord, featureWord, validWord, startWord, moveWord, stopWord, editionWord, ftsLine, featureLine, validLine, startLine, guardedMove, moveLine, stopLine, kindIn, byKind, byWord, readLine, none, ended, readLines, nothing, last, readSheet}
-use Rattle.sheet.specs.Places.{LineOf, FieldAt, Concerned, FieldThere, declaring, declaredIn, ByteThere}
+use Rattle.sheet.specs.Places.{LineOf, FieldAt, Concerned, FieldThere, declaring, declaredIn, BeforeGuard, ByteThere}
 use Rattle.sheet.specs.Places as places
 use Rattle.sheet.proofs.LineKinds.{by-kind}
 use Rattle.sheet.proofs.Accepted.{Tells, keeps, refuses, told-kept, told-refused, told-by, told-if, told-number, told-outcome, told-on, Sound, line-told, nothing-sound}
@@ -36,7 +36,7 @@ hasPlace e = (eqb e 4 || eqb e 9) || (leb 5 e && leb e 7)
 -- a refusal of the line l, whose number is n, over the names declared above it
 data Placed (names : List (List ℕ)) (n : ℕ) (l : List ℕ) : Refusal → Type 0 where
   field : {e : ℕ} {before : List (List ℕ)} {x : List ℕ} → Concerned e before x → FieldAt l before x (placeBehind before) → Placed names n l (refusal e n (placeBehind before))
-  byte : {e : ℕ} {before : List (List ℕ)} {x from : List ℕ} → FieldAt l before x (placeBehind before) → readWhole names x ≡ faulty e from
+  byte : {e : ℕ} {before : List (List ℕ)} {x from : List ℕ} → BeforeGuard before → FieldAt l before x (placeBehind before) → readWhole names x ≡ faulty e from
       → Placed names n l (refusal e n (placeBehind before + (length x - length from)))
   nowhere : {e : ℕ} → hasPlace e ≡ false → Placed names n l (refusal e n 0)
 
@@ -89,7 +89,7 @@ module _ (n at : ℕ) (st : State) (l w : List ℕ) (fs : List (List ℕ)) (is :
       let b : FieldAt l (featureWord ∷ []) x (placeBehind (featureWord ∷ [])) = behind [] whole in
       told-if (refusal 8 n 0) (leb 10 (length (st .sheet .features))) many
       (λ few. told-by (refusal 4 n (placeBehind (featureWord ∷ []))) (not (isName x)) (λ t. field (places.name (not-true (isName x) t)) b)
-      (λ good. told-if (refusal 9 n (placeBehind (featureWord ∷ []))) (isKnown (number (names (st .sheet .features)) x)) (field places.same-name b)
+      (λ good. told-if (refusal 9 n (placeBehind (featureWord ∷ []))) (isKnown (number (names (st .sheet .features)) x)) (field places.of-feature b)
       (λ new. keeps (record { is = sym (ap (λ (gs : List (List ℕ)). declaring gs (names (st .sheet .features))) whole) })))))
 
   valid-placed : w ≡ validWord → Line (validLine n st (asOne fs))
@@ -97,7 +97,7 @@ module _ (n at : ℕ) (st : State) (l w : List ℕ) (fs : List (List ℕ)) (is :
   valid-placed ew =
       by-one (λ o. Line (validLine n st o)) fs (refuses unknown)
       (λ x ef. told-outcome n (placeBehind (validWord ∷ [])) (names (st .sheet .features)) x
-      (λ e from q. byte {before = validWord ∷ []} (behind [] (rw (ew, ef))) q)
+      (λ e from q. byte places.valid (behind [] (rw (ew, ef))) q)
       (λ g rest q. keeps (no-name ew refl refl)))
 
   start-placed : w ≡ startWord → Line (startLine n st (asOne fs))
@@ -114,11 +114,11 @@ module _ (n at : ℕ) (st : State) (l w : List ℕ) (fs : List (List ℕ)) (is :
       told-if (refusal 8 n 0) (leb 256 (length (st .sheet .moves))) many
       (λ few. told-number n (placeBehind (moveWord ∷ [])) f (λ e. field (places.from e) b)
       (λ from ff. told-by (refusal 4 n (placeBehind (moveWord ∷ f ∷ []))) (not (isAction a))
-      (λ no. field (places.action {f = f} (not-true (isAction a) no)) (behind (t ∷ g ∷ []) (rw (ew, ef))))
-      (λ act. told-number n (placeBehind (moveWord ∷ f ∷ a ∷ [])) t (λ e. field (places.to {f = f} {a = a} e) (behind (g ∷ []) (rw (ew, ef))))
+      (λ no. field (places.action ff (not-true (isAction a) no)) (behind (t ∷ g ∷ []) (rw (ew, ef))))
+      (λ act. told-number n (placeBehind (moveWord ∷ f ∷ a ∷ [])) t (λ e. field (places.to ff (not-false (isAction a) act) e) (behind (g ∷ []) (rw (ew, ef))))
       (λ to lt. told-outcome n (placeBehind (moveWord ∷ f ∷ a ∷ t ∷ [])) (names (st .sheet .features)) g
-      (λ e rest q. byte {before = moveWord ∷ f ∷ a ∷ t ∷ []} (behind [] (rw (ew, ef))) q)
-      (λ guard rest q. told-if (refusal 9 n (placeBehind (moveWord ∷ []))) (moved from a to (st .sheet .moves)) (field places.same-move b)
+      (λ e rest q. byte (places.move {f = f} {a = a} {t = t}) (behind [] (rw (ew, ef))) q)
+      (λ guard rest q. told-if (refusal 9 n (placeBehind (moveWord ∷ []))) (moved from a to (st .sheet .moves)) (field places.of-move b)
       (λ new. keeps (no-name ew refl refl))))))))
 
   stop-placed : w ≡ stopWord → Line (stopLine n st (asTwo fs))
@@ -128,8 +128,8 @@ module _ (n at : ℕ) (st : State) (l w : List ℕ) (fs : List (List ℕ)) (is :
       (λ q g ef. let b : FieldAt l (stopWord ∷ []) q (placeBehind (stopWord ∷ [])) = behind (g ∷ []) (rw (ew, ef)) in
       told-number n (placeBehind (stopWord ∷ [])) q (λ e. field (places.stop e) b)
       (λ state small. told-outcome n (placeBehind (stopWord ∷ q ∷ [])) (names (st .sheet .features)) g
-      (λ e rest f. byte {before = stopWord ∷ q ∷ []} (behind [] (rw (ew, ef))) f)
-      (λ guard rest f. told-if (refusal 9 n (placeBehind (stopWord ∷ []))) (stopped state (st .sheet .stops)) (field places.same-stop b)
+      (λ e rest f. byte (places.BeforeGuard.stop {q = q}) (behind [] (rw (ew, ef))) f)
+      (λ guard rest f. told-if (refusal 9 n (placeBehind (stopWord ∷ []))) (stopped state (st .sheet .stops)) (field places.of-stop b)
       (λ new. keeps (no-name ew refl refl)))))
 
   kind-placed : Line (byKind (kindIn (st .section) w) n at st fs)
@@ -201,12 +201,12 @@ concerned-number : {e : ℕ} {before : List (List ℕ)} {x : List ℕ} → Conce
 concerned-number (places.name h) = inl refl
 concerned-number (places.start h) = inl refl
 concerned-number (places.from h) = inl refl
-concerned-number (places.action h) = inl refl
-concerned-number (places.to h) = inl refl
+concerned-number (places.action g h) = inl refl
+concerned-number (places.to f g h) = inl refl
 concerned-number (places.stop h) = inl refl
-concerned-number places.same-name = inr refl
-concerned-number places.same-move = inr refl
-concerned-number places.same-stop = inr refl
+concerned-number places.of-feature = inr refl
+concerned-number places.of-move = inr refl
+concerned-number places.of-stop = inr refl
 
 module _ (s : List ℕ) (above : List (List ℕ)) (line : List ℕ) (below : List (List ℕ)) (are : lines s ≡ above ++ line ∷ below) (good : GoodNames (declaredIn above [])) where
   of-it : LineOf s (length above + 1)
@@ -215,14 +215,15 @@ module _ (s : List ℕ) (above : List (List ℕ)) (line : List ℕ) (below : Lis
   line-said : {q : Refusal} → Placed (declaredIn above []) (length above + 1) line q → Said s q
   unfolding of-it
   line-said (field {before = before} {x = x} c b) = said-field (concerned-number c) (record { of = of-it; before = before; field = x; concerned = c; begins = b })
-  line-said (byte {e} {before} {x} {from} b f) =
+  line-said (byte {e} {before} {x} {from} g b f) =
       let (low, high, r) = whole-faulty (declaredIn above []) x f in
       let h = leftmost-faulty (declaredIn above []) good x e from f in
       said-byte low high
       (record {
         of = of-it;
         before = before;
-        field = x;
+        guarded = g;
+        guard = x;
         p = placeBehind before;
         begins = b;
         from = from;
@@ -276,7 +277,7 @@ module _ (s : List ℕ) {q : Refusal} (e : readSheet s ≡ refused q) where
       go (said-field k f) = inr (f .of, omega (arith, field-ends (f .begins)))
       go (said-byte l m f) =
           let there = f .there in
-          let k : length (f .field) ≡ length (f .leftmost .before) + length (f .from) = ap length (f .leftmost .parted) ∙ length-append (f .leftmost .before) (f .from) in
+          let k : length (f .guard) ≡ length (f .leftmost .before) + length (f .from) = ap length (f .leftmost .parted) ∙ length-append (f .leftmost .before) (f .from) in
           inr (f .of, omega (arith, field-ends (f .begins)))
       go (said-nowhere z p) = inl p
 

@@ -25,7 +25,7 @@ pub record State : Type 0 where
   pub validLine : ℕ
   pub sheet : Sheet
 
--- "A refusal carries its number and the line it speaks of."
+-- "A refusal carries its number and the line it speaks of", and the place: "Every answer that passes a refusal on carries it."
 pub data Answer (A : Type 0) : Type 0 where
   kept : A → Answer A
   refused : Refusal → Answer A

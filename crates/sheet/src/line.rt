@@ -126,13 +126,13 @@ fn refuse(number: u8, line: usize, place: usize) -> LineRead
     })
 }
 
-// A guard's refusal as its line's: `field` is where the guard begins in its line.
-fn refuse_guard(read: GuardRead, line: usize, field: usize) -> LineRead
-    requires { ⌜ ((e at : ℕ) → read ≡ GuardRead.Refused e at → field + at < 2 ^ 64) ⌝ }
-    ensures { λ r. ⌜ ((e at : ℕ) → read ≡ GuardRead.Refused e at → r ≡ LineRead.Refused (refusal e line (field + at))) ⌝ }
+// A guard's refusal as its line's: `guard_place` is where the guard begins in its line.
+fn refuse_guard(read: GuardRead, line: usize, guard_place: usize) -> LineRead
+    requires { ⌜ ((e at : ℕ) → read ≡ GuardRead.Refused e at → «guard_place» + at < 2 ^ 64) ⌝ }
+    ensures { λ r. ⌜ ((e at : ℕ) → read ≡ GuardRead.Refused e at → r ≡ LineRead.Refused (refusal e line («guard_place» + at))) ⌝ }
 {
     match read {
-        GuardRead::Refused { number, at } => refuse(number, line, field + at),
+        GuardRead::Refused { number, at } => refuse(number, line, guard_place + at),
         GuardRead::Upto(_) => refuse(0, line, 0),
     }
 }
@@ -329,14 +329,15 @@ fn read_triple(
 }
 
 // A move whose states and action are good: its guard, which begins at `guard_place` in the line and is
-// laid straight into the next row of guards, then whether it is a repeat, then its row.
+// laid straight into the next row of guards, then whether it is a repeat, then its row. `action_at` is the
+// action's place in the text.
 fn keep_move(
     text: &[u8],
     line: usize,
     c: Progress,
     from: usize,
     action: &[u8],
-    place: usize,
+    action_at: usize,
     to: usize,
     guard: &[u8],
     guard_place: usize,
@@ -345,8 +346,8 @@ fn keep_move(
     move_guards: &mut [[u64; 16]],
     seen: &mut [u64; 128],
 ) -> LineRead
-    requires { ⌜ (place + length (now action) ≤ length (now text)) × (c .moves < 256) × (c .moves < length (now moves)) × (c .moves < length (now «move_guards»)) × («guard_place» + length (now guard) ≤ length (now text) + 6) ⌝ }
-    ensures { λ r. ⌜ ((v : List ℕ) (t h : List (List ℕ)) (st : State) → Stands (now (text .entry)) (tables (now (names .entry)) v (now (moves .entry)) (now («move_guards» .entry)) t h) (now (seen .entry)) c st → Lies (now (text .entry)) (now (action .entry)) place → Says (now (text .entry)) (tables (now (names .entry)) v (now (moves .exit)) (now («move_guards» .exit)) t h) (now (seen .exit)) r (guardedMove line «guard_place» st from (now (action .entry)) place to (now (guard .entry)))) ⌝ }
+    requires { ⌜ («action_at» + length (now action) ≤ length (now text)) × (c .moves < 256) × (c .moves < length (now moves)) × (c .moves < length (now «move_guards»)) × («guard_place» + length (now guard) ≤ length (now text) + 6) ⌝ }
+    ensures { λ r. ⌜ ((v : List ℕ) (t h : List (List ℕ)) (st : State) → Stands (now (text .entry)) (tables (now (names .entry)) v (now (moves .entry)) (now («move_guards» .entry)) t h) (now (seen .entry)) c st → Lies (now (text .entry)) (now (action .entry)) «action_at» → Says (now (text .entry)) (tables (now (names .entry)) v (now (moves .exit)) (now («move_guards» .exit)) t h) (now (seen .exit)) r (guardedMove line «guard_place» st from (now (action .entry)) «action_at» to (now (guard .entry)))) ⌝ }
 {
     let k = c.moves;
     let read = guards::read_whole(text, names, c.features, guard, &mut move_guards[k]);
@@ -357,7 +358,7 @@ fn keep_move(
         return refuse(9, line, BEHIND_MOVE);
     }
     // LINE, FROM, ACTION, ACTION_END and TO.
-    moves[k] = [line, from, place, place + action.len(), to];
+    moves[k] = [line, from, action_at, action_at + action.len(), to];
     LineRead::Kept(Progress {
         section: 3,
         valid: c.valid,
