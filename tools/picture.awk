@@ -141,7 +141,7 @@ function legend(   kinds, text, i) {
 
 function footer(   text, i) {
     text = "Valid products: " count[start] ". Depth: " depth "."
-    if (names_a_product()) text = text " {..} is the smallest product that shows it, by its features."
+    if (names_a_product()) text = text " {..} is the plainest product that shows it, by its features."
     for (i = 1; i <= last_state; i++)
         if (some_only(states[i])) return text "<br align='left'/>n of " count[start] ": so many valid products get there.<br align='left'/>"
     return text

@@ -1,10 +1,14 @@
-// What sets of products have: whether a set has a product, any, or all, and how many; of two sets the least that
-// they share, or that the first alone has, and whether there is one; whether they are the same.
+// What sets of products have: whether a set has a product, any, or all, and how many; of two sets the first in
+// an order that they share, or that the first set alone has, and whether there is one; whether they are the same.
 ghost use mathlib.Core.Path.{_≡_};
 ghost use mathlib.Core.Bool.{true, false, not};
 ghost use Prim.Native.Nat.{ℕ, _+_, _*_, _<_, _≤_};
+ghost use lib.Dec.{eqb};
 ghost use Rattle.products.specs.Sets.{bit, oneIf, In, Picked, InBoth, InOnly, Finds, Full, Lacks, countTo};
+ghost use Rattle.products.specs.Orders.{bits, features, Plainer, Before};
+ghost use Rattle.members.specs.Inside.{InWord};
 use products::Found;
+use products::Order;
 
 // Whether s has the product p.
 pub fn has(s: &[u64; 16], p: usize) -> bool
@@ -49,18 +53,122 @@ pub fn count(s: [u64; 16]) -> usize
     n
 }
 
-// The smallest product that a and b both have.
-pub fn least_both(a: &[u64; 16], b: &[u64; 16]) -> Found
-    ensures { λ r. ⌜ Finds _≤_ (InBoth (now (a .entry)) (now (b .entry))) r ⌝ }
+// The first product in the order that a and b both have.
+pub fn least_both(order: Order, a: &[u64; 16], b: &[u64; 16]) -> Found
+    ensures { λ r. ⌜ Finds (Before order) (InBoth (now (a .entry)) (now (b .entry))) r ⌝ }
 {
-    search(a, b, false)
+    least(order, a, b, false)
 }
 
-// The smallest product that a has and b has not.
-pub fn least_without(a: &[u64; 16], b: &[u64; 16]) -> Found
-    ensures { λ r. ⌜ Finds _≤_ (InOnly (now (a .entry)) (now (b .entry))) r ⌝ }
+// The first product in the order that a has and b has not.
+pub fn least_without(order: Order, a: &[u64; 16], b: &[u64; 16]) -> Found
+    ensures { λ r. ⌜ Finds (Before order) (InOnly (now (a .entry)) (now (b .entry))) r ⌝ }
 {
-    search(a, b, true)
+    least(order, a, b, true)
+}
+
+// The first product in the order that a has and b has, or has not if `out`.
+fn least(order: Order, a: &[u64; 16], b: &[u64; 16], out: bool) -> Found
+    ensures { λ r. ⌜ Finds (Before order) (Picked (oneIf (not out)) (now (a .entry)) (now (b .entry))) r ⌝ }
+{
+    match order {
+        Order::Plainest => plainest(a, b, out),
+        Order::ByNumber => search(a, b, out),
+    }
+}
+
+// The plainest product that a has and b has, or has not if `out`: that with the smallest number, or one behind
+// it with fewer features. Behind a product that has none or one there is nothing to look for.
+fn plainest(a: &[u64; 16], b: &[u64; 16], out: bool) -> Found
+    ensures { λ r. ⌜ Finds Plainer (Picked (oneIf (not out)) (now (a .entry)) (now (b .entry))) r ⌝ }
+{
+    let smallest = search(a, b, out);
+    let Found::At(p) = smallest else {
+        return Found::Nothing;
+    };
+    let mut best = p;
+    let mut few = features_of(p);
+    let mut w = p / 64;
+    while w < 16 && 1 < few {
+        let x = picked(a[w], b[w], out);
+        let plainer = plainest_in(w, x, few);
+        if let Found::At(q) = plainer {
+            best = q;
+            few = features_of(q);
+        }
+        w += 1;
+    }
+    Found::At(best)
+}
+
+// How many features the product p has.
+fn features_of(p: usize) -> usize
+    requires { ⌜ p < 1024 ⌝ }
+    ensures { λ r. ⌜ r ≡ features p ⌝ }
+{
+    u64::count_ones(p as u64) as usize
+}
+
+// The plainest product that the word x has, as word w, and that has fewer than `few` features: layer by layer,
+// and in its layer the one with the smallest number.
+fn plainest_in(w: usize, x: u64, few: usize) -> Found
+    requires { ⌜ (w < 16) × (few ≤ 10) ⌝ }
+    ensures { λ r. ⌜ Finds Plainer (InWord w x few) r ⌝ }
+{
+    if x == 0 {
+        return Found::Nothing;
+    }
+    let common = features_of_word(w);
+    let mut k = 0;
+    while common + k < few {
+        let layer = x & with_features(k);
+        if layer != 0 {
+            return Found::At(w * 64 + lowest(layer));
+        }
+        k += 1;
+    }
+    Found::Nothing
+}
+
+// How many features all products of word w have: one digit for each word.
+fn features_of_word(w: usize) -> usize
+    requires { ⌜ w < 16 ⌝ }
+    ensures { λ r. ⌜ r ≡ bits w 4 ⌝ }
+{
+    (0x4332_3221_3221_2110usize >> (4 * w)) % 16
+}
+
+// The numbers below 64 that have n features.
+fn with_features(n: usize) -> u64
+    ensures { λ r. ⌜ ((k : ℕ) → k < 64 → bit r k ≡ oneIf (eqb (bits k 6) n)) ⌝ }
+{
+    if 6 < n {
+        return 0;
+    }
+    match n {
+        0 => 0x0000_0000_0000_0001,
+        1 => 0x0000_0001_0001_0116,
+        2 => 0x0001_0116_0116_1668,
+        3 => 0x0116_1668_1668_6880,
+        4 => 0x1668_6880_6880_8000,
+        5 => 0x6880_8000_8000_0000,
+        _ => 0x8000_0000_0000_0000,
+    }
+}
+
+// The place of the lowest bit of x.
+fn lowest(x: u64) -> usize
+    requires { ⌜ (x ≡ 0 → ⊥) ⌝ }
+    ensures { λ r. ⌜ (r < 64) × (bit x r ≡ 1) × ((k : ℕ) → k < r → bit x k ≡ 0) ⌝ }
+{
+    let mut k = 0;
+    while k < 64 {
+        if (x >> k) % 2 == 1 {
+            return k;
+        }
+        k += 1;
+    }
+    0
 }
 
 // The smallest product that a has and b has, or has not if `out`. Words that hold none are passed over whole.

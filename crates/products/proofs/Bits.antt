@@ -14,6 +14,7 @@ use lib.Count.{ones, ones-step, ones-le}
 use lib.Dec.{T, eqb, ltb, eqb→eq, eqb·suc-suc}
 use lib.Pow.{pow-mono, shr-shr, field, mod-mod-pow}
 use Rattle.products.specs.Sets.{bit, oneIf}
+use Rattle.products.specs.Orders.{bits}
 
 -- ---- what the operations on words do to each bit
 
@@ -111,7 +112,7 @@ passes-at f (suc n) t k lt =
     below-more (λ k. T (f k)) n (passes-at f n (and-right (f n) (passes f n) t)) (and-left (f n) (passes f n) t) k (rw add-one lt)
 
 -- a word of the code for the number n, whose bits a computed test compares with those that f says
-word-at : (f : ℕ → ℕ → ℕ) (x n : ℕ) {i : ℕ} → T (passes (λ k. eqb (bit x k) (f n k)) 64) → i ≡ n → (k : ℕ) → k < 64 → bit x k ≡ f i k
+pub word-at : (f : ℕ → ℕ → ℕ) (x n : ℕ) {i : ℕ} → T (passes (λ k. eqb (bit x k) (f n k)) 64) → i ≡ n → (k : ℕ) → k < 64 → bit x k ≡ f i k
 word-at f x n test e k lk = rw e (eqb→eq (bit x k) (f n k) (passes-at (λ k. eqb (bit x k) (f n k)) 64 test k lk))
 
 -- every bit of the full word is 1
@@ -151,11 +152,6 @@ pub none-past : (j n : ℕ) → n ≤ j → (k : ℕ) → 2 ^ j ≤ k → oneIf 
 none-past j n le k lk = rw (le-ltb k (2 ^ n) (omega (arith, pow-mono {i = n} {j = j} le)))
 
 -- ---- how many bits of a word are 1
-
--- how many of the lowest k bits of x are 1
-unfoldable pub bits : ℕ → ℕ → ℕ
-bits x zero = 0
-bits x (suc k) = bits x k + bit x k
 
 bits-front : (x k : ℕ) → bits x (suc k) ≡ x % 2 + bits (x / 2) k
 unfolding bits

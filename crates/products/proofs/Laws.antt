@@ -1,5 +1,5 @@
--- Laws of sets of products, for those who use them: what membership and counts are, whatever the set. Assumes nothing.
-use mathlib.Core.Path.{_≡_, refl, sym, _∙_}
+-- Laws of sets of products, for those who use them: what membership and counts are, whatever the set, and what a search found. Assumes nothing.
+use mathlib.Core.Path.{_≡_, refl, sym, subst, _∙_}
 use mathlib.Core.List.{List, [], _∷_}
 use mathlib.Core.Bool.{Bool, true, false}
 use Prim.Native.Nat.{ℕ, zero, suc, _+_, _*_, _/_, _%_, _^_, _<_, _≤_}
@@ -9,8 +9,11 @@ use native.Mathlib.Nat.{add-zero}
 use lib.Count.{ones}
 use lib.ListN.{length, getD, replicate, getD-replicate}
 use lib.Seq.{ext-getD}
-use Rattle.products.specs.Sets.{bit, has, oneIf, In, countTo, Words}
-use Rattle.products.proofs.Bits.{eq-bits, zero-bit, ones-bit, bits, ones-bits}
+use Rattle.products.specs.declared.Found.{Found}
+use Rattle.products.specs.declared.Found.the-variants.{At, Nothing}
+use Rattle.products.specs.Sets.{bit, has, oneIf, In, Least, Finds, countTo, Words}
+use Rattle.products.specs.Orders.{bits}
+use Rattle.products.proofs.Bits.{eq-bits, zero-bit, ones-bit, ones-bits}
 
 -- membership is 0 or 1
 pub has-le : (s : List ℕ) (p : ℕ) → has s p ≤ 1
@@ -87,3 +90,11 @@ count-word s w lt =
 pub one-true : (b : Bool) → oneIf b ≡ 1 → b ≡ true
 one-true true e = refl
 one-true false e = absurd (omega arith)
+
+-- a search's answer, once its case is known
+module _ (R : ℕ → ℕ → Type 0) (P : ℕ → Type 0) {f : Found} (l : Finds R P f) where
+  pub found-at : {p : ℕ} → f ≡ At p → Least R P p
+  found-at e = subst (Finds R P) e l
+
+  pub found-none : f ≡ Nothing → (p : ℕ) → P p → ⊥
+  found-none e = subst (Finds R P) e l

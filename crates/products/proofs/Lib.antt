@@ -1,4 +1,5 @@
 pub mod Bits
 pub mod Laws
 pub mod Filled
+pub mod Ordered
 pub mod Determined

@@ -12,6 +12,13 @@ pub enum Found {
     Nothing,
 }
 
+// Which of two products comes first: the plainer one, which has fewer features, or as many and the smaller
+// number; or the one with the smaller number, whatever it has.
+pub enum Order {
+    Plainest,
+    ByNumber,
+}
+
 // The products that a and b both have.
 pub fn both(a: [u64; 16], b: [u64; 16]) -> [u64; 16]
     ensures { λ r. ⌜ ((p : ℕ) → p < 1024 → has r p ≡ min (has a p) (has b p)) ⌝ }

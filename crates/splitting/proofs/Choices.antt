@@ -13,7 +13,8 @@ use lib.ListN.{getD, length, set, length-set}
 use lib.Pow.{pow-add, pow-mono, shl-shr}
 use lib.Seq.{getD-set-same, getD-set-other}
 use Rattle.products.specs.Sets.{bit, has, countTo}
-use Rattle.products.proofs.Bits.{bit-and, bit-or, zero-bit, cut-bit, bits, ones-bits}
+use Rattle.products.specs.Orders.{bits}
+use Rattle.products.proofs.Bits.{bit-and, bit-or, zero-bit, cut-bit, ones-bits}
 use Rattle.products.proofs.Laws.{has-at, count-more, count-le, count-bits}
 use Rattle.splitting.specs.Inside.{Met, Further, Widened}
 use Rattle.splitting.proofs.Marks.{two-pow, step, step-is, shr-bit, below-bit}

@@ -7,12 +7,12 @@ use Rattle.products.specs.declared.Found.{Found}
 use Rattle.products.specs.declared.Found.the-variants.{At, Nothing}
 use native.Mathlib.Omega.{arith}
 use Rattle.products.specs.Sets.{has, In, Least, Finds, Full, Lacks}
-use Rattle.products.proofs.Laws.{nothing-has}
+use Rattle.products.proofs.Laws.{nothing-has, found-at, found-none}
 use Rattle.verdicts.specs.declared.Verdict.the-variants.{Dead, False, Must, May}
 use Rattle.verdicts.specs.declared.StateVerdict.the-variants.{Hidden, Live}
 use Rattle.verdicts.specs.declared.StopVerdict.the-variants.{Untrue, Idle, True}
 use Rattle.verdicts.specs.Judging.{InBoth, InOnly, MoveSets, StateSets, StopSets}
-use Rattle.verdicts.proofs.Agreeing.{least-as, none-as, some-as, found-at, found-none, both-agree, all-agree}
+use Rattle.verdicts.proofs.Agreeing.{least-as, none-as, some-as, both-agree, all-agree}
 
 -- ---- moves
 

@@ -1,0 +1,71 @@
+-- `plainest` meets its contract. The loop's invariant: the best is the plainest of the words passed, and none behind them has a smaller number.
+-- Assumes nothing.
+use Prim.Native.Nat.{_≤_, _-_}
+use mathlib.Core.Bool.{not}
+use mathlib.Core.Logic.{inl, inr, ⊎-elim}
+use native.Mathlib.Omega.{arith}
+use borrow.Author.Tests.{ltb-false}
+use borrow.Author.Needs.{needs}
+use Rattle.products.specs.Sets.{oneIf, Picked}
+use Rattle.products.proofs.Ordered.{bits-le}
+use Rattle.products.proofs.Laws.{found-at, found-none}
+use Rattle.members.proofs.Layers.{Best, best-smallest, best-stays, best-changes, best-is}
+use Rattle.members.proofs.plainest.Statement.{statement}
+use Rattle.members.proofs.plainest.Tie as tie
+
+abbrev Inv-loop : tie.InvT-loop
+Inv-loop a b out p best₀ few₀ w₀ best few w = (w ≤ 16) × Best (Picked (oneIf (not out)) a b) w best few
+
+abbrev μ-loop : tie.MeasureT-loop
+μ-loop a b out p best₀ few₀ w₀ best few w = 16 - w
+
+returns : tie.Need-returns Inv-loop μ-loop
+returns c = found-none _ _ (c .before .before .search .ensures) (c .enum-told .given .1)
+
+features-of-requires : tie.Need-features-of-requires Inv-loop μ-loop
+features-of-requires c κs = found-at _ _ (c .before .before .before .search .ensures) (c .before .smallest .given .1) .is .first .small
+
+loop-holds : tie.Need-loop-holds Inv-loop μ-loop
+loop-holds c = let h = found-at _ _ (c .before .before .before .before .search .ensures) (c .before .before .smallest .given .1) in (omega (arith, h .is .first .small), best-smallest h (c .features-of .ensures))
+
+plainest-in-requires : tie.Need-plainest-in-requires Inv-loop μ-loop
+plainest-in-requires c κs = let h = c .before .before .before .before .before .loop .inv .1 in (c .before .before .before .before .loop-test .taken, omega (arith, h .has-few, bits-le (c .before .before .before .before .before .loop .best) 10))
+
+features-of-requires-2 : tie.Need-features-of-requires-2 Inv-loop μ-loop
+features-of-requires-2 c κs = let h = found-at _ _ (c .before .before .before .plainest-in .ensures) (c .before .plainer .given .1) in omega (arith, c .before .before .before .before .before .before .before .before .loop-test .taken, h .is .word)
+
+loop-again : tie.Need-loop-again Inv-loop μ-loop
+loop-again c = (omega arith, ⊎-elim (λ x. rw (x .4, x .5) (best-changes _ (c .before .before .before .before .before .before .before .loop .inv .1) (c .before .before .picked .ensures) (c .before .plainest-in .ensures) (x .1 .given .1) (c .before .before .before .before .before .before .loop-test .taken) (x .3 .ensures))) (λ x. rw (x .2, x .3) (best-stays _ (c .before .before .before .before .before .before .before .loop .inv .1) (c .before .before .picked .ensures) (c .before .plainest-in .ensures) (x .1 .given .1))) (c .match2 .came))
+
+returns-2 : tie.Need-returns-2 Inv-loop μ-loop
+returns-2 c = best-is (c .before .before .loop .inv .1) (inr (ltb-false _ _ (c .if1 .left)))
+
+returns-3 : tie.Need-returns-3 Inv-loop μ-loop
+returns-3 c = best-is (c .before .loop .inv .1) (inl (c .loop-test .left))
+
+pub plainest-spec : {M : Type 1} → statement M
+plainest-spec =
+    tie.close
+    (tie.spec
+    Inv-loop
+    μ-loop
+    (λ c κs. search needs)
+    (λ c. search needs)
+    (λ c. search needs)
+    returns
+    features-of-requires
+    loop-holds
+    (λ c. search needs)
+    (λ c. search needs)
+    (λ c. search needs)
+    (λ c. search needs)
+    (λ c κs. search needs)
+    plainest-in-requires
+    (λ c. search needs)
+    features-of-requires-2
+    (λ c. search needs)
+    (λ c. search needs)
+    (λ c. search needs)
+    loop-again
+    returns-2
+    returns-3)
