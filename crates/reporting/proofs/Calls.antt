@@ -1,7 +1,7 @@
 -- The report from its four parts; and for the callers of `put_report`, that the tables have a row for every move. Assumes nothing.
 use mathlib.Core.Path.{_≡_, refl, ap, _∙_}
 use mathlib.Core.List.{List, [], _++_}
-use Prim.Native.Nat.{ℕ, _≤_, _<_, min}
+use Prim.Native.Nat.{ℕ, _<_, min}
 use lib.ListN.{length, getD}
 use Rattle.text.specs.Text.{Wrote}
 use Rattle.text.proofs.Laws.{wrote-then}
@@ -15,12 +15,12 @@ use Rattle.reporting.specs.Laying.{Ready}
 use Rattle.reporting.proofs.Loops.{guarded-moves}
 
 -- the rows of the moves, of the states and of the stops and the depth's row, laid one after another, are the report
-pub whole-report : {r : Sheet} {depth i j k n : ℕ} {l a b d l′ : List ℕ}
-    → (vs : List ℕ) × MoveRows _≤_ r (r .moves) vs × Wrote l 0 vs a i
-    → (vs : List ℕ) × StateRows _≤_ r 64 vs × Wrote a i vs b j
-    → (vs : List ℕ) × StopRows _≤_ r (r .stops) vs × Wrote b j vs d k
+pub whole-report : {R : ℕ → ℕ → Type 0} {r : Sheet} {depth i j k n : ℕ} {l a b d l′ : List ℕ}
+    → (vs : List ℕ) × MoveRows R r (r .moves) vs × Wrote l 0 vs a i
+    → (vs : List ℕ) × StateRows R r 64 vs × Wrote a i vs b j
+    → (vs : List ℕ) × StopRows R r (r .stops) vs × Wrote b j vs d k
     → Depth r depth → Wrote d k (depthRow depth) l′ n
-    → (vs : List ℕ) × IsReport _≤_ r vs × Wrote l 0 vs l′ n
+    → (vs : List ℕ) × IsReport R r vs × Wrote l 0 vs l′ n
 whole-report {depth = depth} (x, xs, u) (y, ys, v) (z, zs, w) deep t = (
   x ++ (y ++ (z ++ depthRow depth)),
   record { moves = x; states = y; stops = z; depth = depth; move-rows = xs; state-rows = ys; stop-rows = zs; is-depth = deep; is = refl },

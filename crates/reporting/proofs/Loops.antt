@@ -106,11 +106,11 @@ module _ {c : Counts} {m g t h sets : List (List ℕ)} {r : Sheet} (w : Ready c 
 
 -- ---- a state that has no row is reached by nobody
 
-pub past-move : (sets : List (List ℕ)) {q : ℕ} (guard : List ℕ) → length sets ≤ q → MoveSets (getD sets q []) guard (Dead Nothing)
-past-move sets guard l = rw (List·getD-eq-default sets [] l) (none-move guard)
+pub past-move : (R : ℕ → ℕ → Type 0) (sets : List (List ℕ)) {q : ℕ} (guard : List ℕ) → length sets ≤ q → MoveSets R (getD sets q []) guard (Dead Nothing)
+past-move R sets guard l = rw (List·getD-eq-default sets [] l) (none-move R guard)
 
-pub past-stop : (sets : List (List ℕ)) {q : ℕ} (guard out : List ℕ) → length sets ≤ q → StopSets (getD sets q []) guard out Idle
-past-stop sets guard out l = rw (List·getD-eq-default sets [] l) (none-stop guard out)
+pub past-stop : (R : ℕ → ℕ → Type 0) (sets : List (List ℕ)) {q : ℕ} (guard out : List ℕ) → length sets ≤ q → StopSets R (getD sets q []) guard out Idle
+past-stop R sets guard out l = rw (List·getD-eq-default sets [] l) (none-stop R guard out)
 
 nothing-counted : (n : ℕ) → countTo [] n ≡ 0
 unfolding countTo
@@ -131,13 +131,13 @@ pub record MovesReady (n : ℕ) (m g sets : List (List ℕ)) (r : Sheet) : Type 
   pub ready : Ready counts m g stops guards sets r
 
 -- the rows of the first i moves, of n
-unfoldable pub MovesUpto : ℕ → ℕ → Sheet → List ℕ → Type 0
-MovesUpto n i r vs = MoveRows _≤_ r (drop (n - i) (r .moves)) vs
+unfoldable pub MovesUpto : (ℕ → ℕ → Type 0) → ℕ → ℕ → Sheet → List ℕ → Type 0
+MovesUpto R n i r vs = MoveRows R r (drop (n - i) (r .moves)) vs
 
 -- the move x is the next of the list, and its line and verdict make its row
-add-move : {r : Sheet} (ms : List Move) {x : Move} {n k line : ℕ} (i : ℕ) (v : Verdict) (vs : List ℕ) → n ≡ k → line ≡ x .line
-    → drop (k - (i + 1)) ms ≡ x ∷ drop (k - i) ms → JudgedAs _≤_ r x v → MoveRows _≤_ r (drop (n - i) ms) vs
-    → MoveRows _≤_ r (drop (n - (i + 1)) ms) (vs ++ moveRow line v)
+add-move : {R : ℕ → ℕ → Type 0} {r : Sheet} (ms : List Move) {x : Move} {n k line : ℕ} (i : ℕ) (v : Verdict) (vs : List ℕ) → n ≡ k → line ≡ x .line
+    → drop (k - (i + 1)) ms ≡ x ∷ drop (k - i) ms → JudgedAs R r x v → MoveRows R r (drop (n - i) ms) vs
+    → MoveRows R r (drop (n - (i + 1)) ms) (vs ++ moveRow line v)
 add-move ms i v vs k line split judged q = rw (line, k, split) (MoveRows.next v judged (rw k at q))
 
 module _ {n : ℕ} {m g sets : List (List ℕ)} {r : Sheet} (w : MovesReady n m g sets r) where
@@ -150,19 +150,19 @@ module _ {n : ℕ} {m g sets : List (List ℕ)} {r : Sheet} (w : MovesReady n m 
   moves-length : length (r .moves) ≡ n
   moves-length = rows-length (w .ready .stands .filled .moves .rows) ∙ sym moves-count
 
-  no-move : MovesUpto n 0 r []
+  no-move : (R : ℕ → ℕ → Type 0) → MovesUpto R n 0 r []
   unfolding MovesUpto
-  no-move = let l = moves-length in rw (drop-of-length-le (r .moves) {i = n - 0} (omega arith)) MoveRows.none
+  no-move R = let l = moves-length in rw (drop-of-length-le (r .moves) {i = n - 0} (omega arith)) MoveRows.none
 
-  every-move : {i : ℕ} {vs : List ℕ} → n ≤ i → MovesUpto n i r vs → MoveRows _≤_ r (r .moves) vs
+  every-move : (R : ℕ → ℕ → Type 0) {i : ℕ} {vs : List ℕ} → n ≤ i → MovesUpto R n i r vs → MoveRows R r (r .moves) vs
   unfolding MovesUpto
-  every-move {i} h q = let z : n - i ≡ 0 = omega arith in rw z at q
+  every-move R {i} h q = let z : n - i ≡ 0 = omega arith in rw z at q
 
-  one-move : {i line : ℕ} (v : Verdict) (vs : List ℕ) → i < n → line ≡ getD (getD m i []) 0 0
-      → MoveSets (getD sets (getD (getD m i []) 1 0 % 64) []) (getD g i []) v
-      → MovesUpto n i r vs → MovesUpto n (i + 1) r (vs ++ moveRow line v)
+  one-move : (R : ℕ → ℕ → Type 0) {i line : ℕ} (v : Verdict) (vs : List ℕ) → i < n → line ≡ getD (getD m i []) 0 0
+      → MoveSets R (getD sets (getD (getD m i []) 1 0 % 64) []) (getD g i []) v
+      → MovesUpto R n i r vs → MovesUpto R n (i + 1) r (vs ++ moveRow line v)
   unfolding MovesUpto
-  one-move {i} {line} v vs h e s q =
+  one-move R {i} {line} v vs h e s q =
       let k = moves-count in
       let l : i < w .counts .moves = omega arith in
       let x = row-next (w .ready .stands .filled .moves .rows) (w .ready .stands .filled .moveGuards .rows) l in
@@ -171,34 +171,34 @@ module _ {n : ℕ} {m g sets : List (List ℕ)} {r : Sheet} (w : MovesReady n m 
       let from : getD (getD m i []) 1 0 ≡ x .0 .from = ap (λ (row : List ℕ). getD row 1 0) is in
       let place : getD (getD m i []) 1 0 % 64 ≡ x .0 .from = omega arith in
       let sets-there = rw place at s in
-      let judged = move-judged (w .ready .accepted) (w .ready .reaches) (x .0) (x .4) (getD g i []) (x .3) v sets-there in
+      let judged = move-judged (w .ready .accepted) (w .ready .reaches) (x .0) (x .4) (getD g i []) (x .3) R v sets-there in
       let line-is : line ≡ x .0 .line = e ∙ ap (λ (row : List ℕ). getD row 0 0) is in
       add-move (r .moves) i v vs k line-is (x .1) judged q
 
 -- ---- the loop over moves
 
-module _ {n : ℕ} {m g sets : List (List ℕ)} {room : List ℕ} {at : ℕ} where
-  pub moves-none : length room ≤ limit → Laid (MovesReady n m g sets) (MovesUpto n) room at 0 room at
-  moves-none h = laid-none h (λ r w. no-move w)
+module _ (R : ℕ → ℕ → Type 0) {n : ℕ} {m g sets : List (List ℕ)} {room : List ℕ} {at : ℕ} where
+  pub moves-none : length room ≤ limit → Laid (MovesReady n m g sets) (MovesUpto R n) room at 0 room at
+  moves-none h = laid-none h (λ r w. no-move w R)
 
-  pub moves-more : {i line : ℕ} (v : Verdict) {room′ room″ : List ℕ} {next next″ : ℕ} → Laid (MovesReady n m g sets) (MovesUpto n) room at i room′ next
+  pub moves-more : {i line : ℕ} (v : Verdict) {room′ room″ : List ℕ} {next next″ : ℕ} → Laid (MovesReady n m g sets) (MovesUpto R n) room at i room′ next
       → Wrote room′ next (moveRow line v) room″ next″ → i < n
-      → (line ≡ getD (getD m i []) 0 0) × MoveSets (getD sets (getD (getD m i []) 1 0 % 64) []) (getD g i []) v
-      → Laid (MovesReady n m g sets) (MovesUpto n) room at (i + 1) room″ next″
-  moves-more {line = line} v l w h j = laid-more l (wrote-long w) (λ r p. (moveRow line v, λ vs q. one-move p v vs h (j .0) (j .1) q, w))
+      → (line ≡ getD (getD m i []) 0 0) × MoveSets R (getD sets (getD (getD m i []) 1 0 % 64) []) (getD g i []) v
+      → Laid (MovesReady n m g sets) (MovesUpto R n) room at (i + 1) room″ next″
+  moves-more {line = line} v l w h j = laid-more l (wrote-long w) (λ r p. (moveRow line v, λ vs q. one-move p R v vs h (j .0) (j .1) q, w))
 
-  pub moves-all : {i : ℕ} {room′ : List ℕ} {next : ℕ} → Laid (MovesReady n m g sets) (MovesUpto n) room at i room′ next → n ≤ i → {c : Counts} → n ≡ min (min (min (c .moves) 256) (length m)) (length g)
-      → (t h : List (List ℕ)) (r : Sheet) → Ready c m g t h sets r → (vs : List ℕ) × MoveRows _≤_ r (r .moves) vs × Wrote room at vs room′ next
+  pub moves-all : {i : ℕ} {room′ : List ℕ} {next : ℕ} → Laid (MovesReady n m g sets) (MovesUpto R n) room at i room′ next → n ≤ i → {c : Counts} → n ≡ min (min (min (c .moves) 256) (length m)) (length g)
+      → (t h : List (List ℕ)) (r : Sheet) → Ready c m g t h sets r → (vs : List ℕ) × MoveRows R r (r .moves) vs × Wrote room at vs room′ next
   moves-all l h {c} e stops guards r ready =
       let w : MovesReady n m g sets r = record { counts = c; stops = stops; guards = guards; is = e; ready = ready } in
       let x = l .text r w in
-      (x .0, every-move w h (x .1), x .2)
+      (x .0, every-move w R h (x .1), x .2)
 
 -- ---- states
 
 -- the rows of the named states below q
-unfoldable pub StatesUpto : ℕ → Sheet → List ℕ → Type 0
-StatesUpto q r vs = StateRows _≤_ r q vs
+unfoldable pub StatesUpto : (ℕ → ℕ → Type 0) → ℕ → Sheet → List ℕ → Type 0
+StatesUpto R q r vs = StateRows R r q vs
 
 -- the tables with some guards of the moves m are ready, and `out` is what the guards give
 pub record StatesReady (c : Counts) (m t h sets out : List (List ℕ)) (r : Sheet) : Type 0 where
@@ -331,7 +331,7 @@ module _ {c : Counts} {m g t h sets : List (List ℕ)} {r : Sheet} (w : Ready c 
   is-other {q} lq e = names-told q .not-so (unmarked (namedAt c m t (min (min (c .moves) 256) (length m)) (min (min (c .stops) 64) (length t)) q) (k .by-line q lq) e)
 
 -- d states that no line names have no rows
-no-rows : {r : Sheet} {vs : List ℕ} (q d : ℕ) → StateRows _≤_ r q vs → ((j : ℕ) → j < d → Named r (q + j) → ⊥) → StateRows _≤_ r (q + d) vs
+no-rows : {R : ℕ → ℕ → Type 0} {r : Sheet} {vs : List ℕ} (q d : ℕ) → StateRows R r q vs → ((j : ℕ) → j < d → Named r (q + j) → ⊥) → StateRows R r (q + d) vs
 no-rows q zero s f = let e : q + 0 ≡ q = omega arith in rw e s
 no-rows q (suc d) s f =
     let e : q + suc d ≡ suc (q + d) = omega arith in
@@ -339,16 +339,16 @@ no-rows q (suc d) s f =
 
 -- ---- the loop over states
 
-module _ {c : Counts} {m t h sets out : List (List ℕ)} {room : List ℕ} {at : ℕ} where
-  pub states-none : length room ≤ limit → Laid (StatesReady c m t h sets out) StatesUpto room at 0 room at
+module _ (R : ℕ → ℕ → Type 0) {c : Counts} {m t h sets out : List (List ℕ)} {room : List ℕ} {at : ℕ} where
+  pub states-none : length room ≤ limit → Laid (StatesReady c m t h sets out) (StatesUpto R) room at 0 room at
   unfolding StatesUpto
   states-none l = laid-none l (λ r w. StateRows.none)
 
   module _ {leaves stopped named q rest : ℕ} (k : Marks c m t leaves stopped named) (f : Left named q rest) {room′ : List ℕ} {next : ℕ}
-      (l : Laid (StatesReady c m t h sets out) StatesUpto room at q room′ next) where
+      (l : Laid (StatesReady c m t h sets out) (StatesUpto R) room at q room′ next) where
     -- no line names the state q
     pub states-passed : {room″ : List ℕ} {next″ : ℕ} → room″ ≡ room′ → next″ ≡ next → (rest ≡ 0 → ⊥) → (rest % 2 ≡ 1 → ⊥)
-        → Laid (StatesReady c m t h sets out) StatesUpto room at (q + 1) room″ next″
+        → Laid (StatesReady c m t h sets out) (StatesUpto R) room at (q + 1) room″ next″
     unfolding StatesUpto
     states-passed i j some z =
         let lq = left-small f (k .small) some in
@@ -361,8 +361,8 @@ module _ {c : Counts} {m t h sets out : List (List ℕ)} {room : List ℕ} {at :
 
     pub states-more : {room″ room‴ : List ℕ} {next″ next‴ : ℕ} → room‴ ≡ room″ → next‴ ≡ next″ → (rest ≡ 0 → ⊥) → rest % 2 ≡ 1 → length room″ ≡ length room′
         → ((m g : List (List ℕ)) (r : Sheet) → Ready c m g t h sets r → Told c m g t sets out leaves stopped → Named r q
-        → (vs : List ℕ) × ((before : List ℕ) → StateRows _≤_ r q before → StateRows _≤_ r (suc q) (before ++ vs)) × Wrote room′ next vs room″ next″)
-        → Laid (StatesReady c m t h sets out) StatesUpto room at (q + 1) room‴ next‴
+        → (vs : List ℕ) × ((before : List ℕ) → StateRows R r q before → StateRows R r (suc q) (before ++ vs)) × Wrote room′ next vs room″ next″)
+        → Laid (StatesReady c m t h sets out) (StatesUpto R) room at (q + 1) room‴ next‴
     unfolding StatesUpto
     states-more i j some o e put =
         let lq = left-small f (k .small) some in
@@ -372,7 +372,7 @@ module _ {c : Counts} {m t h sets out : List (List ℕ)} {room : List ℕ} {at :
         (x .0, λ vs s. rw add-one (x .1 vs s), x .2)))
 
     pub states-all : rest ≡ 0 → (g : List (List ℕ)) (r : Sheet) → Ready c m g t h sets r → Outward c m g sets out
-        → (vs : List ℕ) × StateRows _≤_ r 64 vs × Wrote room at vs room′ next
+        → (vs : List ℕ) × StateRows R r 64 vs × Wrote room at vs room′ next
     unfolding StatesUpto
     states-all z g r w o =
         let x = l .text r (record { guards = g; ready = w; outward = o }) in
@@ -382,29 +382,29 @@ module _ {c : Counts} {m t h sets out : List (List ℕ)} {room : List ℕ} {at :
         (x .0, rw e at (no-rows q (64 - q) (x .1) (λ j lj. is-other w k (omega arith) (left-bit f j ∙ none j))), x .2)
 
 -- one named state's row
-pub state-laid : {c : Counts} {t h sets out : List (List ℕ)} {leaves stopped q : ℕ} → q < 64
+pub state-laid : (R : ℕ → ℕ → Type 0) {c : Counts} {t h sets out : List (List ℕ)} {leaves stopped q : ℕ} → q < 64
     → (v : StateVerdict) {k at next : ℕ} {room room′ : List ℕ} → Wrote room at (stateRow q v k) room′ next → k ≡ countTo (getD sets q []) 1024
     → ((n : ℕ) → n ≡ min (min (min (c .stops) 64) (length t)) (length h) → bit stopped q ≡ oneIf (rowAt t 1 q n)
-    → (excused : List ℕ) × ((p : ℕ) → p < 1024 → has excused p ≡ max (has (getD out q []) p) (guardsAt t h q p n)) × StateSets (getD sets q []) (eqb (bit leaves q) 1) excused v)
+    → (excused : List ℕ) × ((p : ℕ) → p < 1024 → has excused p ≡ max (has (getD out q []) p) (guardsAt t h q p n)) × StateSets R (getD sets q []) (eqb (bit leaves q) 1) excused v)
     → (m g : List (List ℕ)) (r : Sheet) → Ready c m g t h sets r → Told c m g t sets out leaves stopped → Named r q
-    → (vs : List ℕ) × ((before : List ℕ) → StateRows _≤_ r q before → StateRows _≤_ r (suc q) (before ++ vs)) × Wrote room at vs room′ next
-state-laid {c} {q = q} lq v {k} l e judged m g r w told i =
+    → (vs : List ℕ) × ((before : List ℕ) → StateRows R r q before → StateRows R r (suc q) (before ++ vs)) × Wrote room at vs room′ next
+state-laid R {c} {q = q} lq v {k} l e judged m g r w told i =
     let x = judged (min (c .stops) 64) (sym (guarded-stops w)) (told .declared q lq) in (
       stateRow q v k,
       λ before s.
           StateRows.named {k = k} v i
-          (state-judged (w .accepted) (w .reaches) (w .stands) lq (x .0) (λ p b. x .1 p (b .small) ∙ rw (told .outward q lq p b) refl)
+          (state-judged (w .accepted) (w .reaches) (w .stands) lq (x .0) (λ p b. x .1 p (b .small) ∙ rw (told .outward q lq p b) refl) R
           (mark-told (rowAt m 1 q (min (c .moves) 256)) (told .left q lq)) v (x .2))
           (rw e (count-judged (w .accepted) (w .reaches) lq)) s,
       l,
     )
 
 -- the same where the state has no row
-pub state-past : {c : Counts} {t h sets out : List (List ℕ)} {leaves stopped q : ℕ} → q < 64 → length sets ≤ q
+pub state-past : (R : ℕ → ℕ → Type 0) {c : Counts} {t h sets out : List (List ℕ)} {leaves stopped q : ℕ} → q < 64 → length sets ≤ q
     → {at next : ℕ} {room room′ : List ℕ} → Wrote room at (stateRow q Unreached 0) room′ next
     → (m g : List (List ℕ)) (r : Sheet) → Ready c m g t h sets r → Told c m g t sets out leaves stopped → Named r q
-    → (vs : List ℕ) × ((before : List ℕ) → StateRows _≤_ r q before → StateRows _≤_ r (suc q) (before ++ vs)) × Wrote room at vs room′ next
-state-past {sets = sets} {q = q} lq past l m g r w told i = (
+    → (vs : List ℕ) × ((before : List ℕ) → StateRows R r q before → StateRows R r (suc q) (before ++ vs)) × Wrote room at vs room′ next
+state-past R {sets = sets} {q = q} lq past l m g r w told i = (
   stateRow q Unreached 0,
   λ before s.
       StateRows.named {k = 0} Unreached i (λ p b. omega (arith, has-row sets q (reached-agree (w .accepted) (w .reaches) lq .back p b)))
@@ -424,13 +424,13 @@ pub record StopsReady (n : ℕ) (t h sets out : List (List ℕ)) (r : Sheet) : T
   pub outward : Outward counts moves guards sets out
 
 -- the rows of the first i stop lines, of n
-unfoldable pub StopsUpto : ℕ → ℕ → Sheet → List ℕ → Type 0
-StopsUpto n i r vs = StopRows _≤_ r (drop (n - i) (r .stops)) vs
+unfoldable pub StopsUpto : (ℕ → ℕ → Type 0) → ℕ → ℕ → Sheet → List ℕ → Type 0
+StopsUpto R n i r vs = StopRows R r (drop (n - i) (r .stops)) vs
 
 -- the same for the stop line x
-add-stop : {r : Sheet} (ds : List Stop) {x : Stop} {n k line : ℕ} (i : ℕ) (v : StopVerdict) (vs : List ℕ) → n ≡ k → line ≡ x .line
-    → drop (k - (i + 1)) ds ≡ x ∷ drop (k - i) ds → StopAs _≤_ r x v → StopRows _≤_ r (drop (n - i) ds) vs
-    → StopRows _≤_ r (drop (n - (i + 1)) ds) (vs ++ stopRow line v)
+add-stop : {R : ℕ → ℕ → Type 0} {r : Sheet} (ds : List Stop) {x : Stop} {n k line : ℕ} (i : ℕ) (v : StopVerdict) (vs : List ℕ) → n ≡ k → line ≡ x .line
+    → drop (k - (i + 1)) ds ≡ x ∷ drop (k - i) ds → StopAs R r x v → StopRows R r (drop (n - i) ds) vs
+    → StopRows R r (drop (n - (i + 1)) ds) (vs ++ stopRow line v)
 add-stop ds i v vs k line split judged q = rw (line, k, split) (StopRows.next v judged (rw k at q))
 
 module _ {n : ℕ} {t h sets out : List (List ℕ)} {r : Sheet} (w : StopsReady n t h sets out r) where
@@ -440,18 +440,18 @@ module _ {n : ℕ} {t h sets out : List (List ℕ)} {r : Sheet} (w : StopsReady 
       let is : n ≡ min (w .counts .stops) 64 = w .is ∙ guarded-stops (w .ready) in
       omega arith
 
-  no-stop : StopsUpto n 0 r []
+  no-stop : (R : ℕ → ℕ → Type 0) → StopsUpto R n 0 r []
   unfolding StopsUpto
-  no-stop =
+  no-stop R =
       let k = stops-count in
       let l = rows-length (w .ready .stands .filled .stops .rows) in
       rw (drop-of-length-le (r .stops) {i = n - 0} (omega arith)) StopRows.none
 
-  one-stop : {i : ℕ} (v : StopVerdict) (vs : List ℕ) → i < n
-      → StopSets (getD sets (getD (getD t i []) 1 0 % 64) []) (getD h i []) (getD out (getD (getD t i []) 1 0 % 64) []) v
-      → StopsUpto n i r vs → StopsUpto n (i + 1) r (vs ++ stopRow (getD (getD t i []) 0 0) v)
+  one-stop : (R : ℕ → ℕ → Type 0) {i : ℕ} (v : StopVerdict) (vs : List ℕ) → i < n
+      → StopSets R (getD sets (getD (getD t i []) 1 0 % 64) []) (getD h i []) (getD out (getD (getD t i []) 1 0 % 64) []) v
+      → StopsUpto R n i r vs → StopsUpto R n (i + 1) r (vs ++ stopRow (getD (getD t i []) 0 0) v)
   unfolding StopsUpto
-  one-stop {i} v vs l s q =
+  one-stop R {i} v vs l s q =
       let k = stops-count in
       let x = row-next {i = i} (w .ready .stands .filled .stops .rows) (w .ready .stands .filled .stopGuards .rows) (omega arith) in
       let small = good-stop (w .ready .accepted .stops) (x .4) .state in
@@ -459,24 +459,24 @@ module _ {n : ℕ} {t h sets out : List (List ℕ)} {r : Sheet} (w : StopsReady 
       let place : getD (getD t i []) 1 0 % 64 ≡ x .0 .state = omega arith in
       let judged =
       stop-judged (w .ready .accepted) (w .ready .reaches) (w .ready .stands) (x .0) (x .4) (getD h i []) (x .3) (getD out (x .0 .state) [])
-      (w .outward (x .0 .state) (omega arith)) v (rw place at s) in
+      (w .outward (x .0 .state) (omega arith)) R v (rw place at s) in
       let line : getD (getD t i []) 0 0 ≡ x .0 .line = ap (λ (row : List ℕ). getD row 0 0) (x .2) in
       add-stop (r .stops) i v vs k line (x .1) judged q
 
 -- ---- the loop over stop lines
 
-module _ {n : ℕ} {t h sets out : List (List ℕ)} {room : List ℕ} {at : ℕ} where
-  pub stops-none : length room ≤ limit → Laid (StopsReady n t h sets out) (StopsUpto n) room at 0 room at
-  stops-none l = laid-none l (λ r w. no-stop w)
+module _ (R : ℕ → ℕ → Type 0) {n : ℕ} {t h sets out : List (List ℕ)} {room : List ℕ} {at : ℕ} where
+  pub stops-none : length room ≤ limit → Laid (StopsReady n t h sets out) (StopsUpto R n) room at 0 room at
+  stops-none l = laid-none l (λ r w. no-stop w R)
 
-  pub stops-more : {i : ℕ} (v : StopVerdict) {room′ room″ : List ℕ} {next next″ : ℕ} → Laid (StopsReady n t h sets out) (StopsUpto n) room at i room′ next
+  pub stops-more : {i : ℕ} (v : StopVerdict) {room′ room″ : List ℕ} {next next″ : ℕ} → Laid (StopsReady n t h sets out) (StopsUpto R n) room at i room′ next
       → Wrote room′ next (stopRow (getD (getD t i []) 0 0) v) room″ next″ → i < n
-      → StopSets (getD sets (getD (getD t i []) 1 0 % 64) []) (getD h i []) (getD out (getD (getD t i []) 1 0 % 64) []) v
-      → Laid (StopsReady n t h sets out) (StopsUpto n) room at (i + 1) room″ next″
-  stops-more {i} v l w lt s = laid-more l (wrote-long w) (λ r p. (stopRow (getD (getD t i []) 0 0) v, λ vs q. one-stop p v vs lt s q, w))
+      → StopSets R (getD sets (getD (getD t i []) 1 0 % 64) []) (getD h i []) (getD out (getD (getD t i []) 1 0 % 64) []) v
+      → Laid (StopsReady n t h sets out) (StopsUpto R n) room at (i + 1) room″ next″
+  stops-more {i} v l w lt s = laid-more l (wrote-long w) (λ r p. (stopRow (getD (getD t i []) 0 0) v, λ vs q. one-stop p R v vs lt s q, w))
 
-  pub stops-all : {i : ℕ} {room′ : List ℕ} {next : ℕ} → Laid (StopsReady n t h sets out) (StopsUpto n) room at i room′ next → n ≤ i → {c : Counts} → n ≡ min (min (min (c .stops) 64) (length t)) (length h)
-      → (m g : List (List ℕ)) (r : Sheet) → Ready c m g t h sets r → Outward c m g sets out → (vs : List ℕ) × StopRows _≤_ r (r .stops) vs × Wrote room at vs room′ next
+  pub stops-all : {i : ℕ} {room′ : List ℕ} {next : ℕ} → Laid (StopsReady n t h sets out) (StopsUpto R n) room at i room′ next → n ≤ i → {c : Counts} → n ≡ min (min (min (c .stops) 64) (length t)) (length h)
+      → (m g : List (List ℕ)) (r : Sheet) → Ready c m g t h sets r → Outward c m g sets out → (vs : List ℕ) × StopRows R r (r .stops) vs × Wrote room at vs room′ next
   unfolding StopsUpto
   stops-all {i} l k {c} e m g r w o =
       let x = l .text r (record { counts = c; moves = m; guards = g; is = e; ready = w; outward = o }) in

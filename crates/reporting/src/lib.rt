@@ -10,6 +10,7 @@ ghost use lib.Dec.{eqb};
 ghost use lib.ListN.{length, getD};
 ghost use Rattle.text.specs.Text.{Wrote};
 ghost use Rattle.products.specs.Sets.{bit, has, oneIf};
+ghost use Rattle.products.specs.Orders.{Before};
 ghost use Rattle.sheet.specs.Sheet.{Sheet};
 ghost use Rattle.verdicts.specs.Verdicts.{Named};
 ghost use Rattle.verdicts.specs.Judging.{MoveSets, StateSets, StopSets, guardsAt, rowAt};
@@ -18,6 +19,7 @@ ghost use Rattle.reporting.specs.Report.{IsReport, MoveRows, StateRows, 
 ghost use Rattle.reporting.specs.Laying.{Ready, Outward};
 ghost use Rattle.reporting.specs.Inside.{Marked, Told};
 use products::Found;
+use products::Order;
 use row::put_depth;
 use row::put_move;
 use row::put_state;
@@ -32,8 +34,10 @@ use verdicts::StateVerdict;
 use verdicts::StopVerdict;
 use verdicts::Verdict;
 
-// Lays the report of the sheet that the tables stand for from the room's start; the answer is its length.
+// Lays the report of the sheet that the tables stand for from the room's start, with the first products in the
+// order; the answer is its length.
 pub fn put_report(
+    order: Order,
     room: &mut [u8],
     c: Counts,
     depth: usize,
@@ -45,16 +49,17 @@ pub fn put_report(
     stop_guards: &[[u64; 16]],
 ) -> usize
     requires { ⌜ min 64 (length (now sets)) ≤ length (now out) ⌝ }
-    ensures { λ n. ⌜ ((r : Sheet) → Ready c (now (moves .entry)) (now («move_guards» .entry)) (now (stops .entry)) (now («stop_guards» .entry)) (now (sets .entry)) r → Outward c (now (moves .entry)) (now («move_guards» .entry)) (now (sets .entry)) (now (out .entry)) → Depth r depth → (vs : List ℕ) × IsReport _≤_ r vs × Wrote (now (room .entry)) 0 vs (now (room .exit)) n) ⌝ }
+    ensures { λ n. ⌜ ((r : Sheet) → Ready c (now (moves .entry)) (now («move_guards» .entry)) (now (stops .entry)) (now («stop_guards» .entry)) (now (sets .entry)) r → Outward c (now (moves .entry)) (now («move_guards» .entry)) (now (sets .entry)) (now (out .entry)) → Depth r depth → (vs : List ℕ) × IsReport (Before order) r vs × Wrote (now (room .entry)) 0 vs (now (room .exit)) n) ⌝ }
 {
-    let a = put_moves(room, 0, c, sets, moves, move_guards);
-    let b = put_states(room, a, c, sets, out, moves, stops, stop_guards);
-    let d = put_stops(room, b, c, sets, out, stops, stop_guards);
+    let a = put_moves(order, room, 0, c, sets, moves, move_guards);
+    let b = put_states(order, room, a, c, sets, out, moves, stops, stop_guards);
+    let d = put_stops(order, room, b, c, sets, out, stops, stop_guards);
     put_depth(room, d, depth)
 }
 
 // The rows of all moves.
 fn put_moves(
+    order: Order,
     room: &mut [u8],
     at: usize,
     c: Counts,
@@ -62,7 +67,7 @@ fn put_moves(
     moves: &[[usize; 5]],
     move_guards: &[[u64; 16]],
 ) -> usize
-    ensures { λ n. ⌜ ((t h : List (List ℕ)) (r : Sheet) → Ready c (now (moves .entry)) (now («move_guards» .entry)) t h (now (sets .entry)) r → (vs : List ℕ) × MoveRows _≤_ r (r .moves) vs × Wrote (now (room .entry)) at vs (now (room .exit)) n) ⌝ }
+    ensures { λ n. ⌜ ((t h : List (List ℕ)) (r : Sheet) → Ready c (now (moves .entry)) (now («move_guards» .entry)) t h (now (sets .entry)) r → (vs : List ℕ) × MoveRows (Before order) r (r .moves) vs × Wrote (now (room .entry)) at vs (now (room .exit)) n) ⌝ }
 {
     let n = counts::at_most(
         counts::at_most(counts::at_most(c.moves, 256), moves.len()),
@@ -71,7 +76,7 @@ fn put_moves(
     let mut next = at;
     let mut i = 0;
     while i < n {
-        let j = move_at(i, sets, moves, move_guards);
+        let j = move_at(order, i, sets, moves, move_guards);
         next = put_move(room, next, j);
         i += 1;
     }
@@ -79,9 +84,15 @@ fn put_moves(
 }
 
 // The move of row i, judged. A state that has no row in `sets` is reached by nobody.
-fn move_at(i: usize, sets: &[[u64; 16]], moves: &[[usize; 5]], move_guards: &[[u64; 16]]) -> Judged
+fn move_at(
+    order: Order,
+    i: usize,
+    sets: &[[u64; 16]],
+    moves: &[[usize; 5]],
+    move_guards: &[[u64; 16]],
+) -> Judged
     requires { ⌜ (i < length (now moves)) × (i < length (now «move_guards»)) ⌝ }
-    ensures { λ j. ⌜ (j .line ≡ getD (getD (now (moves .entry)) i List.[]) 0 0) × MoveSets (getD (now (sets .entry)) (getD (getD (now (moves .entry)) i List.[]) 1 0 % 64) List.[]) (getD (now («move_guards» .entry)) i List.[]) (j .verdict) ⌝ }
+    ensures { λ j. ⌜ (j .line ≡ getD (getD (now (moves .entry)) i List.[]) 0 0) × MoveSets (Before order) (getD (now (sets .entry)) (getD (getD (now (moves .entry)) i List.[]) 1 0 % 64) List.[]) (getD (now («move_guards» .entry)) i List.[]) (j .verdict) ⌝ }
 {
     let row = moves[i];
     let from = row[FROM] % 64;
@@ -91,12 +102,13 @@ fn move_at(i: usize, sets: &[[u64; 16]], moves: &[[usize; 5]], move_guards: &[[u
             verdict: Verdict::Dead(Found::Nothing),
         };
     }
-    verdicts::judge_move(row[LINE], &sets[from], &move_guards[i])
+    verdicts::judge_move(order, row[LINE], &sets[from], &move_guards[i])
 }
 
 // The rows of all named states, rising: bit 0 of `named` is for the state q, and after the last named
 // state the word is 0.
 fn put_states(
+    order: Order,
     room: &mut [u8],
     at: usize,
     c: Counts,
@@ -107,7 +119,7 @@ fn put_states(
     stop_guards: &[[u64; 16]],
 ) -> usize
     requires { ⌜ min 64 (length (now sets)) ≤ length (now out) ⌝ }
-    ensures { λ n. ⌜ ((g : List (List ℕ)) (r : Sheet) → Ready c (now (moves .entry)) g (now (stops .entry)) (now («stop_guards» .entry)) (now (sets .entry)) r → Outward c (now (moves .entry)) g (now (sets .entry)) (now (out .entry)) → (vs : List ℕ) × StateRows _≤_ r 64 vs × Wrote (now (room .entry)) at vs (now (room .exit)) n) ⌝ }
+    ensures { λ n. ⌜ ((g : List (List ℕ)) (r : Sheet) → Ready c (now (moves .entry)) g (now (stops .entry)) (now («stop_guards» .entry)) (now (sets .entry)) r → Outward c (now (moves .entry)) g (now (sets .entry)) (now (out .entry)) → (vs : List ℕ) × StateRows (Before order) r 64 vs × Wrote (now (room .entry)) at vs (now (room .exit)) n) ⌝ }
 {
     let leaves = verdicts::states_at(c.moves, moves, FROM);
     let ends = verdicts::states_at(c.moves, moves, TO);
@@ -118,6 +130,7 @@ fn put_states(
     while named != 0 {
         if named % 2 == 1 {
             next = put_state_at(
+                order,
                 room,
                 next,
                 q,
@@ -145,6 +158,7 @@ fn named_word(start: usize, leaves: u64, ends: u64, stopped: u64) -> u64
 
 // The row of the state q, which a line names. A state that has no row in `sets` is reached by nobody.
 fn put_state_at(
+    order: Order,
     room: &mut [u8],
     at: usize,
     q: usize,
@@ -157,18 +171,29 @@ fn put_state_at(
     stop_guards: &[[u64; 16]],
 ) -> usize
     requires { ⌜ (q < 64) × (min 64 (length (now sets)) ≤ length (now out)) ⌝ }
-    ensures { λ n. ⌜ ((m g : List (List ℕ)) (r : Sheet) → Ready c m g (now (stops .entry)) (now («stop_guards» .entry)) (now (sets .entry)) r → Told c m g (now (stops .entry)) (now (sets .entry)) (now (out .entry)) leaves stopped → Named r q → (vs : List ℕ) × ((before : List ℕ) → StateRows _≤_ r q before → StateRows _≤_ r (suc q) (before ++ vs)) × Wrote (now (room .entry)) at vs (now (room .exit)) n) ⌝ }
+    ensures { λ n. ⌜ ((m g : List (List ℕ)) (r : Sheet) → Ready c m g (now (stops .entry)) (now («stop_guards» .entry)) (now (sets .entry)) r → Told c m g (now (stops .entry)) (now (sets .entry)) (now (out .entry)) leaves stopped → Named r q → (vs : List ℕ) × ((before : List ℕ) → StateRows (Before order) r q before → StateRows (Before order) r (suc q) (before ++ vs)) × Wrote (now (room .entry)) at vs (now (room .exit)) n) ⌝ }
 {
     if sets.len() <= q {
         return put_state(room, at, q, StateVerdict::Unreached, 0);
     }
-    let v = state_at(q, sets, out, leaves, stopped, c.stops, stops, stop_guards);
+    let v = state_at(
+        order,
+        q,
+        sets,
+        out,
+        leaves,
+        stopped,
+        c.stops,
+        stops,
+        stop_guards,
+    );
     put_state(room, at, q, v, members::count(sets[q]))
 }
 
 // The state q, judged. Excused are the products in which a move line of it holds, and those in which a stop
 // line does, if one is for it.
 fn state_at(
+    order: Order,
     q: usize,
     sets: &[[u64; 16]],
     out: &[[u64; 16]],
@@ -179,19 +204,20 @@ fn state_at(
     stop_guards: &[[u64; 16]],
 ) -> StateVerdict
     requires { ⌜ (q < 64) × (q < length (now sets)) × (q < length (now out)) ⌝ }
-    ensures { λ v. ⌜ ((n : ℕ) → n ≡ min (min (min count 64) (length (now (stops .entry)))) (length (now («stop_guards» .entry))) → bit stopped q ≡ oneIf (rowAt (now (stops .entry)) 1 q n) → (excused : List ℕ) × ((p : ℕ) → p < 1024 → has excused p ≡ max (has (getD (now (out .entry)) q List.[]) p) (guardsAt (now (stops .entry)) (now («stop_guards» .entry)) q p n)) × StateSets (getD (now (sets .entry)) q List.[]) (eqb (bit leaves q) 1) excused v) ⌝ }
+    ensures { λ v. ⌜ ((n : ℕ) → n ≡ min (min (min count 64) (length (now (stops .entry)))) (length (now («stop_guards» .entry))) → bit stopped q ≡ oneIf (rowAt (now (stops .entry)) 1 q n) → (excused : List ℕ) × ((p : ℕ) → p < 1024 → has excused p ≡ max (has (getD (now (out .entry)) q List.[]) p) (guardsAt (now (stops .entry)) (now («stop_guards» .entry)) q p n)) × StateSets (Before order) (getD (now (sets .entry)) q List.[]) (eqb (bit leaves q) 1) excused v) ⌝ }
 {
     let leaving = (leaves >> q) % 2 == 1;
     if (stopped >> q) % 2 == 0 {
-        return verdicts::judge_state(&sets[q], leaving, &out[q]);
+        return verdicts::judge_state(order, &sets[q], leaving, &out[q]);
     }
     let declared = verdicts::declared_at(q, count, stops, stop_guards);
     let excused = products::either(out[q], declared);
-    verdicts::judge_state(&sets[q], leaving, &excused)
+    verdicts::judge_state(order, &sets[q], leaving, &excused)
 }
 
 // The rows of all stop lines.
 fn put_stops(
+    order: Order,
     room: &mut [u8],
     at: usize,
     c: Counts,
@@ -201,7 +227,7 @@ fn put_stops(
     stop_guards: &[[u64; 16]],
 ) -> usize
     requires { ⌜ min 64 (length (now sets)) ≤ length (now out) ⌝ }
-    ensures { λ n. ⌜ ((m g : List (List ℕ)) (r : Sheet) → Ready c m g (now (stops .entry)) (now («stop_guards» .entry)) (now (sets .entry)) r → Outward c m g (now (sets .entry)) (now (out .entry)) → (vs : List ℕ) × StopRows _≤_ r (r .stops) vs × Wrote (now (room .entry)) at vs (now (room .exit)) n) ⌝ }
+    ensures { λ n. ⌜ ((m g : List (List ℕ)) (r : Sheet) → Ready c m g (now (stops .entry)) (now («stop_guards» .entry)) (now (sets .entry)) r → Outward c m g (now (sets .entry)) (now (out .entry)) → (vs : List ℕ) × StopRows (Before order) r (r .stops) vs × Wrote (now (room .entry)) at vs (now (room .exit)) n) ⌝ }
 {
     let n = counts::at_most(
         counts::at_most(counts::at_most(c.stops, 64), stops.len()),
@@ -211,7 +237,7 @@ fn put_stops(
     let mut i = 0;
     while i < n {
         let row = stops[i];
-        let v = stop_at(i, sets, out, stops, stop_guards);
+        let v = stop_at(order, i, sets, out, stops, stop_guards);
         next = put_stop(room, next, row[LINE], v);
         i += 1;
     }
@@ -220,6 +246,7 @@ fn put_stops(
 
 // The stop line of row i, judged. A state that has no row in `sets` is reached by nobody.
 fn stop_at(
+    order: Order,
     i: usize,
     sets: &[[u64; 16]],
     out: &[[u64; 16]],
@@ -227,11 +254,11 @@ fn stop_at(
     stop_guards: &[[u64; 16]],
 ) -> StopVerdict
     requires { ⌜ (i < length (now stops)) × (i < length (now «stop_guards»)) × (min 64 (length (now sets)) ≤ length (now out)) ⌝ }
-    ensures { λ v. ⌜ StopSets (getD (now (sets .entry)) (getD (getD (now (stops .entry)) i List.[]) 1 0 % 64) List.[]) (getD (now («stop_guards» .entry)) i List.[]) (getD (now (out .entry)) (getD (getD (now (stops .entry)) i List.[]) 1 0 % 64) List.[]) v ⌝ }
+    ensures { λ v. ⌜ StopSets (Before order) (getD (now (sets .entry)) (getD (getD (now (stops .entry)) i List.[]) 1 0 % 64) List.[]) (getD (now («stop_guards» .entry)) i List.[]) (getD (now (out .entry)) (getD (getD (now (stops .entry)) i List.[]) 1 0 % 64) List.[]) v ⌝ }
 {
     let state = stops[i][STATE] % 64;
     if sets.len() <= state {
         return StopVerdict::Idle;
     }
-    verdicts::judge_stop(sets[state], stop_guards[i], out[state])
+    verdicts::judge_stop(order, sets[state], stop_guards[i], out[state])
 }
