@@ -14,6 +14,10 @@ use Rattle.text.proofs.Laws.{wrote-whole, wrote-end, dry-fits, dry-too-long}
 use Rattle.refusals.specs.declared.Refusal.{Refusal}
 use Rattle.refusals.specs.Refusal.{refusal}
 use Rattle.sheet.specs.declared.Counts.{Counts}
+use Rattle.products.specs.declared.Order.{Order}
+use Rattle.products.specs.declared.Order.the-variants.{Plainest}
+use Rattle.products.specs.Orders.{Before}
+use Rattle.products.proofs.Ordered.{before-one}
 use Rattle.sheet.specs.Sheet.{Sheet}
 use Rattle.sheet.specs.Tables.{Tables, StandsFor}
 use Rattle.family.specs.Rounds.{stepAt, Spread}
@@ -93,13 +97,13 @@ filled short {l} z (vs, is, w) =
 -- ---- whether the report fits
 
 module _ {s : List ℕ} {c : Counts} {T : Tables} {sets : List (List ℕ)} {depth : ℕ} {r : Sheet} (d : Laid s c T sets depth r) where
-  pub never-longer : {most : ℕ} → 9545 ≤ most → Fitting (IsReport _≤_ r) most true
+  pub never-longer : {R : ℕ → ℕ → Type 0} {most : ℕ} → 9545 ≤ most → Fitting (IsReport R r) most true
   never-longer h = record { is = λ text is. omega (arith, report-short (d .comes .accepted) (d .comes .lines) is) }
 
 -- by the length n that a run told
-pub told : {r : Sheet} {n most : ℕ} (b : Bool) → Long (IsReport _≤_ r) n → most < limit → leb n most ≡ b → Fitting (IsReport _≤_ r) most b
-told {n = n} {most} true first small e = record { is = all-fit first small report-determined (leb-true n most e) }
-told {n = n} {most} false first small e = record { is = λ line. too-long first small line (leb-false n most e) }
+pub told : (o : Order) {r : Sheet} {n most : ℕ} (b : Bool) → Long (IsReport (Before o) r) n → most < limit → leb n most ≡ b → Fitting (IsReport (Before o) r) most b
+told o {n = n} {most} true first small e = record { is = all-fit first small (report-determined (before-one o)) (leb-true n most e) }
+told o {n = n} {most} false first small e = record { is = λ line. too-long first small line (leb-false n most e) }
 
 pub fit : {R : List ℕ → Type 0} {m : ℕ} {b : Bool} → Fitting R m b → not b ≡ false → (text : List ℕ) → R text → length text ≤ m
 fit {b = true} f e = f .is
@@ -111,11 +115,11 @@ unfit {b = false} f e = f .is
 
 -- ---- both texts, each in its room
 
-pub report-long : {r : Sheet} {room second : List ℕ} {q : Refusal} → TooLong (IsReport _≤_ r) (length room) 1 q → BothFilling r room room second second (two.Refused q)
+pub report-long : {r : Sheet} {room second : List ℕ} {q : Refusal} → TooLong (IsReport (Before Plainest) r) (length room) 1 q → BothFilling r room room second second (two.Refused q)
 report-long h = record { is = (refl, refl, inl h) }
 
 -- the clean sheet does not fit, and the line goes by the report
-pub both-long : {r : Sheet} {room second : List ℕ} {line : ℕ} → Longer (IsReport _≤_ r) (length room) line
+pub both-long : {r : Sheet} {room second : List ℕ} {line : ℕ} → Longer (IsReport (Before Plainest) r) (length room) line
     → ((line : ℕ) → TooLong (IsClean r) (cleanMost second) line (refusal 11 line 0)) → BothFilling r room room second second (two.Refused (refusal 11 line 0))
 both-long (inl (e, long)) clean = rw e (record { is = (refl, refl, inl long) })
 both-long (inr (e, fit)) clean = rw e (record { is = (refl, refl, inr (fit, clean 2)) })

@@ -7,6 +7,10 @@ use Prim.Native.Nat.{ℕ, _≤_}
 use native.Mathlib.Omega.{arith}
 use lib.ListN.{length}
 use Rattle.refusals.specs.declared.Refusal.{Refusal}
+use Rattle.products.specs.declared.Order.{Order}
+use Rattle.products.specs.declared.Order.the-variants.{Plainest}
+use Rattle.products.specs.Orders.{Before}
+use Rattle.products.proofs.Ordered.{before-one}
 use Rattle.sheet.specs.Sheet.{Sheet}
 use Rattle.sheet.specs.Reading.{kept, refused, readSheet}
 use Rattle.sheet.proofs.Accepted.{kept-refused}
@@ -69,9 +73,9 @@ module _ (No : Sheet → Refusal → Type 0) (Is : Sheet → List ℕ → Type 0
   one-text-determined x y (one.Refused p) (one.Done n) z (r, a, q) = absurd (done-refused a q (z .1))
   one-text-determined x y (one.Refused p) (one.Refused q) z w = (ap one.Refused (refused-once (z .1) (w .1)), z .0 ∙ sym (w .0))
 
-pub report-promise-determined : (s room x y : List ℕ) (a b : Answer) → ReportPromise s room x a → ReportPromise s room y b → (a ≡ b) × (x ≡ y)
-report-promise-determined s room x y a b p q =
-    one-text-determined nothing (IsReport _≤_) (length room) (λ r x y i j. report-determined x y i j) (λ r d e z w. absurd z) (λ r e x z i. z) s room x y a b p q
+pub report-promise-determined : (o : Order) (s room x y : List ℕ) (a b : Answer) → ReportPromise o s room x a → ReportPromise o s room y b → (a ≡ b) × (x ≡ y)
+report-promise-determined o s room x y a b p q =
+    one-text-determined nothing (IsReport (Before o)) (length room) (λ r x y i j. report-determined (before-one o) x y i j) (λ r d e z w. absurd z) (λ r e x z i. z) s room x y a b p q
 
 pub clean-promise-determined : (s room x y : List ℕ) (a b : Answer) → CleanPromise s room x a → CleanPromise s room y b → (a ≡ b) × (x ≡ y)
 clean-promise-determined s room x y a b p q =
@@ -79,23 +83,26 @@ clean-promise-determined s room x y a b p q =
 
 -- ---- the call with two rooms
 
+plainest-determined : {r : Sheet} (x y : List ℕ) → IsReport (Before Plainest) r x → IsReport (Before Plainest) r y → x ≡ y
+plainest-determined = report-determined (before-one Plainest)
+
 module _ (s room clean : List ℕ) where
   abbrev RefusesBoth : Refusal → Type 0
   RefusesBoth q = (readSheet s ≡ refused q) ⊎ ((r : Sheet) × (readSheet s ≡ kept r) × EitherTooLong r room clean q)
 
-  either-fits : {r : Sheet} {q : Refusal} → Fits (IsReport _≤_ r) (length room) → Fits (IsClean r) (cleanMost clean) → EitherTooLong r room clean q → ⊥
-  either-fits p c (inl z) = fits-long report-determined p z
+  either-fits : {r : Sheet} {q : Refusal} → Fits (IsReport (Before Plainest) r) (length room) → Fits (IsClean r) (cleanMost clean) → EitherTooLong r room clean q → ⊥
+  either-fits p c (inl z) = fits-long plainest-determined p z
   either-fits p c (inr (f, z)) = fits-long one-clean c z
 
-  both-refused : {r : Sheet} {x y : List ℕ} {m k : ℕ} {q : Refusal} → readSheet s ≡ kept r → Filled (IsReport _≤_ r) (length room) room x m
+  both-refused : {r : Sheet} {x y : List ℕ} {m k : ℕ} {q : Refusal} → readSheet s ≡ kept r → Filled (IsReport (Before Plainest) r) (length room) room x m
       → Filled (IsClean r) (cleanMost clean) clean y k → RefusesBoth q → ⊥
   both-refused a p c (inl e) = kept-refused s a e
   both-refused a p c (inr (r, b, z)) = either-fits (filled-fits p) (filled-fits c) (rw (kept-one s b a) at z)
 
   either-one : {r : Sheet} {p q : Refusal} → EitherTooLong r room clean p → EitherTooLong r room clean q → p ≡ q
   either-one (inl x) (inl y) = x .eleven ∙ sym (y .eleven)
-  either-one (inl x) (inr (f, y)) = absurd (fits-long report-determined f x)
-  either-one (inr (f, x)) (inl y) = absurd (fits-long report-determined f y)
+  either-one (inl x) (inr (f, y)) = absurd (fits-long plainest-determined f x)
+  either-one (inr (f, x)) (inl y) = absurd (fits-long plainest-determined f y)
   either-one (inr (f, x)) (inr (g, y)) = x .eleven ∙ sym (y .eleven)
 
   both-refused-once : {p q : Refusal} → RefusesBoth p → RefusesBoth q → p ≡ q
@@ -106,7 +113,7 @@ module _ (s room clean : List ℕ) where
 
   pub both-promise-determined : (x y u v : List ℕ) (a b : Answers) → BothPromise s room x clean u a → BothPromise s room y clean v b → (a ≡ b) × (x ≡ y) × (u ≡ v)
   both-promise-determined x y u v (two.Done m k) (two.Done n j) (r, a, p, c) (q, b, z, w) =
-      let (e, f) = filled-once report-determined p (rw (kept-one s b a) at z) in
+      let (e, f) = filled-once plainest-determined p (rw (kept-one s b a) at z) in
       let (g, h) = filled-once one-clean c (rw (kept-one s b a) at w) in
       (ap (λ (i : ℕ). two.Done i k) e ∙ ap (λ (i : ℕ). two.Done n i) g, f, h)
   both-promise-determined x y u v (two.Done m k) (two.Refused q) (r, a, p, c) z = absurd (both-refused a p c (z .2))

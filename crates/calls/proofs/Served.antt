@@ -2,9 +2,10 @@
 use mathlib.Core.Path.{_≡_, refl}
 use mathlib.Core.List.{List}
 use mathlib.Core.Logic.{inl, inr}
-use Prim.Native.Nat.{ℕ, _≤_}
+use Prim.Native.Nat.{ℕ}
 use lib.ListN.{length}
 use Rattle.refusals.specs.declared.Refusal.{Refusal}
+use Rattle.products.specs.Orders.{Before}
 use Rattle.sheet.specs.Sheet.{Sheet}
 use Rattle.sheet.specs.declared.Counts.{Counts}
 use Rattle.sheet.specs.Reading.{kept, refused, readSheet}
@@ -31,7 +32,7 @@ module _ (s : List ℕ) {r : Sheet} (read : readSheet s ≡ kept r) where
   both-served (two.Refused q) l = (l .is .0, l .is .1, inr (r, read, l .is .2))
 
   serves : (job : Job) (room room′ second second′ : List ℕ) (a : Answers) → Leaves job r room room′ second second′ a → Serves job s room room′ second second′ a
-  serves Report room room′ second second′ a l = one-served a (IsReport _≤_) (length room) l
+  serves (Report o) room room′ second second′ a l = one-served a (IsReport (Before o)) (length room) l
   serves Clean room room′ second second′ a l = one-served a IsClean (cleanMost room) l
   serves Both room room′ second second′ a l = both-served a l
 
@@ -48,6 +49,6 @@ pub refused-served : {s : List ℕ} {q : Refusal} → readSheet s ≡ refused q 
 refused-served {s} {q} e {job} {room} {second} = record { is = refuses job }
   where
     refuses : (job : Job) → Serves job s room room second second (two.Refused q)
-    refuses Report = (refl, inl e)
+    refuses (Report o) = (refl, inl e)
     refuses Clean = (refl, inl e)
     refuses Both = (refl, refl, inl e)

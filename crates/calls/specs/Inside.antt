@@ -8,6 +8,8 @@ use Prim.Native.Nat.{ℕ, _≤_}
 use lib.ListN.{length, getD}
 use Rattle.text.specs.Text.{Wrote}
 use Rattle.refusals.specs.Refusal.{refusal}
+use Rattle.products.specs.declared.Order.the-variants.{Plainest}
+use Rattle.products.specs.Orders.{Before}
 use Rattle.sheet.specs.declared.Counts.{Counts}
 use Rattle.sheet.specs.Sheet.{Sheet}
 use Rattle.sheet.specs.Tables.{Tables, StandsFor}
@@ -32,7 +34,7 @@ firstOf (two.Refused q) = one.Refused q
 -- ---- what each job promises; the second room of a job that has one is empty, and nothing is said of it
 
 abbrev pub Serves : Job → List ℕ → List ℕ → List ℕ → List ℕ → List ℕ → Answers → Type 0
-Serves Report s room room′ second second′ a = ReportPromise s room room′ (firstOf a)
+Serves (Report o) s room room′ second second′ a = ReportPromise o s room room′ (firstOf a)
 Serves Clean s room room′ second second′ a = CleanPromise s room room′ (firstOf a)
 Serves Both s room room′ second second′ a = BothPromise s room room′ second second′ a
 
@@ -69,14 +71,14 @@ pub record Filling (Is : List ℕ → Type 0) (most : ℕ) (room room′ : List 
   pub is : Fills Is most room room′ a
 
 abbrev pub FillsBoth : Sheet → List ℕ → List ℕ → List ℕ → List ℕ → Answers → Type 0
-FillsBoth r room room′ clean clean′ (two.Done n m) = Filled (IsReport _≤_ r) (length room) room room′ n × Filled (IsClean r) (cleanMost clean) clean clean′ m
+FillsBoth r room room′ clean clean′ (two.Done n m) = Filled (IsReport (Before Plainest) r) (length room) room room′ n × Filled (IsClean r) (cleanMost clean) clean clean′ m
 FillsBoth r room room′ clean clean′ (two.Refused q) = (room′ ≡ room) × (clean′ ≡ clean) × EitherTooLong r room clean q
 
 pub record BothFilling (r : Sheet) (room room′ clean clean′ : List ℕ) (a : Answers) : Type 0 where
   pub is : FillsBoth r room room′ clean clean′ a
 
 abbrev pub Leaves : Job → Sheet → List ℕ → List ℕ → List ℕ → List ℕ → Answers → Type 0
-Leaves Report r room room′ second second′ a = Filling (IsReport _≤_ r) (length room) room room′ a
+Leaves (Report o) r room room′ second second′ a = Filling (IsReport (Before o) r) (length room) room room′ a
 Leaves Clean r room room′ second second′ a = Filling (IsClean r) (cleanMost room) room room′ a
 Leaves Both r room room′ second second′ a = BothFilling r room room′ second second′ a
 

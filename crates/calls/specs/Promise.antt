@@ -6,6 +6,9 @@ use Prim.Native.Nat.{ℕ, _≤_, _<_, min}
 use lib.ListN.{length, drop}
 use Rattle.refusals.specs.declared.Refusal.{Refusal}
 use Rattle.refusals.specs.Refusal.{refusal}
+use Rattle.products.specs.declared.Order.{Order}
+use Rattle.products.specs.declared.Order.the-variants.{Plainest}
+use Rattle.products.specs.Orders.{Before}
 use Rattle.sheet.specs.Sheet.{Sheet}
 use Rattle.sheet.specs.Reading.{kept, refused, readSheet}
 use Rattle.reporting.specs.Report.{IsReport}
@@ -48,8 +51,10 @@ OneText No Is most s room room′ (one.Refused q) =
 abbrev pub nothing : Sheet → Refusal → Type 0
 nothing r q = ⊥
 
-abbrev pub ReportPromise : List ℕ → List ℕ → List ℕ → Answer → Type 0
-ReportPromise s room room′ a = OneText nothing (IsReport _≤_) (length room) s room room′ a
+-- "Both are shown from one statement over the order used": `report` promises it of the plainest product, "with the fewest features, then the smallest
+-- number", and `report_by_number` of the smallest number, "by a call of its own"
+abbrev pub ReportPromise : Order → List ℕ → List ℕ → List ℕ → Answer → Type 0
+ReportPromise o s room room′ a = OneText nothing (IsReport (Before o)) (length room) s room room′ a
 
 -- "for `clean` also longer than 65,536"
 abbrev pub cleanMost : List ℕ → ℕ
@@ -58,15 +63,16 @@ cleanMost room = min (length room) 65536
 abbrev pub CleanPromise : List ℕ → List ℕ → List ℕ → Answer → Type 0
 CleanPromise s room room′ a = OneText nothing IsClean (cleanMost room) s room room′ a
 
--- ---- "One call instead of two", with two rooms: "If either result doesn't fit, neither room changes. Both texts equal those of the single calls"
+-- ---- "One call instead of two", with two rooms: "If either result doesn't fit, neither room changes. Both texts equal those of the single calls, the
+-- report in the default order"
 
 -- "in this call 11 carries line 1 for the report's room, line 2 for the clean sheet's room or its 65,536 bytes, the report's first"
 abbrev pub EitherTooLong : Sheet → List ℕ → List ℕ → Refusal → Type 0
 EitherTooLong r room clean q =
-    TooLong (IsReport _≤_ r) (length room) 1 q ⊎ (Fits (IsReport _≤_ r) (length room) × TooLong (IsClean r) (cleanMost clean) 2 q)
+    TooLong (IsReport (Before Plainest) r) (length room) 1 q ⊎ (Fits (IsReport (Before Plainest) r) (length room) × TooLong (IsClean r) (cleanMost clean) 2 q)
 
 abbrev pub BothPromise : List ℕ → List ℕ → List ℕ → List ℕ → List ℕ → Answers → Type 0
 BothPromise s room room′ clean clean′ (two.Done n m) =
-    (r : Sheet) × (readSheet s ≡ kept r) × Filled (IsReport _≤_ r) (length room) room room′ n × Filled (IsClean r) (cleanMost clean) clean clean′ m
+    (r : Sheet) × (readSheet s ≡ kept r) × Filled (IsReport (Before Plainest) r) (length room) room room′ n × Filled (IsClean r) (cleanMost clean) clean clean′ m
 BothPromise s room room′ clean clean′ (two.Refused q) =
     (room′ ≡ room) × (clean′ ≡ clean) × ((readSheet s ≡ refused q) ⊎ ((r : Sheet) × (readSheet s ≡ kept r) × EitherTooLong r room clean q))

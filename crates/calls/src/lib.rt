@@ -5,6 +5,7 @@ ghost use mathlib.Core.List.{List};
 ghost use Prim.Native.Nat.{ℕ, _*_, _%_, _≤_, _<_, min};
 ghost use lib.ListN.{length, replicate};
 ghost use Rattle.refusals.specs.Refusal.{refusal};
+ghost use Rattle.products.specs.Orders.{Before};
 ghost use Rattle.sheet.specs.Sheet.{Sheet};
 ghost use Rattle.sheet.specs.Tables.{tables, blankTables, StandsFor};
 ghost use Rattle.family.specs.Rounds.{toAt, highestTo};
@@ -16,6 +17,7 @@ ghost use Rattle.calls.specs.Shown.{Put};
 ghost use Rattle.calls.specs.Inside.{firstOf, Served, Comes, Long, Longer, Fitting, Filling, BothFilling, Left, Laid};
 use cleaning::put_clean;
 use ordering::order_moves;
+use products::Order;
 use refusals::Refusal;
 use reporting::put_report;
 use sheet::Counts;
@@ -37,9 +39,10 @@ pub enum Answers {
     Refused(Refusal),
 }
 
-// What is asked for of a sheet.
+// What is asked for of a sheet: the report in an order, the clean sheet, or both, the report in the order of
+// the call `report`.
 pub enum Job {
-    Report,
+    Report(Order),
     Clean,
     Both,
 }
@@ -62,12 +65,26 @@ const LOW: usize = 8;
 // No report is longer; that is proved.
 const REPORT_MOST: usize = 9545;
 
-// Lays the report of the sheet `text` into `room`.
+// Lays the report of the sheet `text` into `room`; each of its products is the plainest.
 pub fn report(text: &[u8], room: &mut [u8]) -> Answer
-    ensures { λ a. ⌜ ReportPromise (now (text .entry)) (now (room .entry)) (now (room .exit)) a ⌝ }
+    ensures { λ a. ⌜ ReportPromise Order.Plainest (now (text .entry)) (now (room .entry)) (now (room .exit)) a ⌝ }
+{
+    report_in(Order::Plainest, text, room)
+}
+
+// The same; each of its products is the one with the smallest number.
+pub fn report_by_number(text: &[u8], room: &mut [u8]) -> Answer
+    ensures { λ a. ⌜ ReportPromise Order.ByNumber (now (text .entry)) (now (room .entry)) (now (room .exit)) a ⌝ }
+{
+    report_in(Order::ByNumber, text, room)
+}
+
+// Lays the report with the first products in the order.
+fn report_in(order: Order, text: &[u8], room: &mut [u8]) -> Answer
+    ensures { λ a. ⌜ ReportPromise order (now (text .entry)) (now (room .entry)) (now (room .exit)) a ⌝ }
 {
     let mut none = [0u8; 0];
-    let a = serve(Job::Report, text, room, &mut none);
+    let a = serve(Job::Report(order), text, room, &mut none);
     first_of(a)
 }
 
@@ -398,7 +415,18 @@ fn lay(
     ensures { λ a. ⌜ ((r : Sheet) → Laid (now (text .entry)) c (tables (now (names .entry)) valid (now (moves .entry)) (now (guards .entry)) (now (stops .entry)) (now («stop_guards» .entry))) (now (sets .entry)) depth r → Left job r (now (room .entry)) (now (room .exit)) (now (second .entry)) (now (second .exit)) a) ⌝ }
 {
     match job {
-        Job::Report => lay_report(room, c, depth, sets, out, moves, guards, stops, stop_guards),
+        Job::Report(order) => lay_report(
+            order,
+            room,
+            c,
+            depth,
+            sets,
+            out,
+            moves,
+            guards,
+            stops,
+            stop_guards,
+        ),
         Job::Clean => lay_clean(text, room, c, names, valid, sets, out, moves, guards),
         Job::Both => lay_both(
             text,
@@ -420,6 +448,7 @@ fn lay(
 
 // The report, if it fits.
 fn lay_report(
+    order: Order,
     room: &mut [u8],
     c: Counts,
     depth: usize,
@@ -431,12 +460,34 @@ fn lay_report(
     stop_guards: &[[u64; 16]],
 ) -> Answers
     requires { ⌜ (min 64 (length (now sets)) ≤ length (now out)) × Outs (now moves) (now guards) (now sets) (min (min (min (c .moves) 256) (length (now moves))) (length (now guards))) (now out) ⌝ }
-    ensures { λ a. ⌜ ((s : List ℕ) (n : List (List ℕ)) (v : List ℕ) (r : Sheet) → Laid s c (tables n v (now (moves .entry)) (now (guards .entry)) (now (stops .entry)) (now («stop_guards» .entry))) (now (sets .entry)) depth r → Filling (IsReport _≤_ r) (length (now (room .entry))) (now (room .entry)) (now (room .exit)) a) ⌝ }
+    ensures { λ a. ⌜ ((s : List ℕ) (n : List (List ℕ)) (v : List ℕ) (r : Sheet) → Laid s c (tables n v (now (moves .entry)) (now (guards .entry)) (now (stops .entry)) (now («stop_guards» .entry))) (now (sets .entry)) depth r → Filling (IsReport (Before order) r) (length (now (room .entry))) (now (room .entry)) (now (room .exit)) a) ⌝ }
 {
-    if !report_fits(room, c, depth, sets, out, moves, guards, stops, stop_guards) {
+    if !report_fits(
+        order,
+        room,
+        c,
+        depth,
+        sets,
+        out,
+        moves,
+        guards,
+        stops,
+        stop_guards,
+    ) {
         return refuse(11, 0);
     }
-    let k = put_report(room, c, depth, sets, out, moves, guards, stops, stop_guards);
+    let k = put_report(
+        order,
+        room,
+        c,
+        depth,
+        sets,
+        out,
+        moves,
+        guards,
+        stops,
+        stop_guards,
+    );
     Answers::Done(k, 0)
 }
 
@@ -500,10 +551,32 @@ fn lay_both(
     let kept = order_moves(text, c.moves, moves, guards, sets, &mut rows);
     let long = clean_length(text, c, names, valid, moves, guards, sets, out, &rows, kept);
     if counts::at_most(second.len(), MOST_BYTES) < long {
-        let line = longer(room, c, depth, sets, out, moves, guards, stops, stop_guards);
+        let line = longer(
+            Order::Plainest,
+            room,
+            c,
+            depth,
+            sets,
+            out,
+            moves,
+            guards,
+            stops,
+            stop_guards,
+        );
         return refuse(11, line);
     }
-    if !report_fits(room, c, depth, sets, out, moves, guards, stops, stop_guards) {
+    if !report_fits(
+        Order::Plainest,
+        room,
+        c,
+        depth,
+        sets,
+        out,
+        moves,
+        guards,
+        stops,
+        stop_guards,
+    ) {
         return refuse(11, 1);
     }
     let m = put_clean(
@@ -519,12 +592,24 @@ fn lay_both(
         &rows,
         kept,
     );
-    let n = put_report(room, c, depth, sets, out, moves, guards, stops, stop_guards);
+    let n = put_report(
+        Order::Plainest,
+        room,
+        c,
+        depth,
+        sets,
+        out,
+        moves,
+        guards,
+        stops,
+        stop_guards,
+    );
     Answers::Done(n, m)
 }
 
 // Whether the report fits into the room, which stays as it is. What no report exceeds needs no run.
 fn report_fits(
+    order: Order,
     room: &mut [u8],
     c: Counts,
     depth: usize,
@@ -536,13 +621,14 @@ fn report_fits(
     stop_guards: &[[u64; 16]],
 ) -> bool
     requires { ⌜ (min 64 (length (now sets)) ≤ length (now out)) × Outs (now moves) (now guards) (now sets) (min (min (min (c .moves) 256) (length (now moves))) (length (now guards))) (now out) ⌝ }
-    ensures { λ b. ⌜ (now (room .exit) ≡ now (room .entry)) × ((s : List ℕ) (n : List (List ℕ)) (v : List ℕ) (r : Sheet) → Laid s c (tables n v (now (moves .entry)) (now (guards .entry)) (now (stops .entry)) (now («stop_guards» .entry))) (now (sets .entry)) depth r → Fitting (IsReport _≤_ r) (length (now (room .entry))) b) ⌝ }
+    ensures { λ b. ⌜ (now (room .exit) ≡ now (room .entry)) × ((s : List ℕ) (n : List (List ℕ)) (v : List ℕ) (r : Sheet) → Laid s c (tables n v (now (moves .entry)) (now (guards .entry)) (now (stops .entry)) (now («stop_guards» .entry))) (now (sets .entry)) depth r → Fitting (IsReport (Before order) r) (length (now (room .entry))) b) ⌝ }
 {
     if REPORT_MOST <= room.len() {
         return true;
     }
     let mut none = [0u8; 0];
     let n = put_report(
+        order,
         &mut none,
         c,
         depth,
@@ -559,6 +645,7 @@ fn report_fits(
 // Of which room 11 speaks where the clean sheet is too long: of the report's, 1, if that is too long as
 // well. The room stays as it is.
 fn longer(
+    order: Order,
     room: &mut [u8],
     c: Counts,
     depth: usize,
@@ -570,10 +657,11 @@ fn longer(
     stop_guards: &[[u64; 16]],
 ) -> usize
     requires { ⌜ (min 64 (length (now sets)) ≤ length (now out)) × Outs (now moves) (now guards) (now sets) (min (min (min (c .moves) 256) (length (now moves))) (length (now guards))) (now out) ⌝ }
-    ensures { λ line. ⌜ (now (room .exit) ≡ now (room .entry)) × ((s : List ℕ) (n : List (List ℕ)) (v : List ℕ) (r : Sheet) → Laid s c (tables n v (now (moves .entry)) (now (guards .entry)) (now (stops .entry)) (now («stop_guards» .entry))) (now (sets .entry)) depth r → Longer (IsReport _≤_ r) (length (now (room .entry))) line) ⌝ }
+    ensures { λ line. ⌜ (now (room .exit) ≡ now (room .entry)) × ((s : List ℕ) (n : List (List ℕ)) (v : List ℕ) (r : Sheet) → Laid s c (tables n v (now (moves .entry)) (now (guards .entry)) (now (stops .entry)) (now («stop_guards» .entry))) (now (sets .entry)) depth r → Longer (IsReport (Before order) r) (length (now (room .entry))) line) ⌝ }
 {
     let mut no_room = [0u8; 0];
     let n = put_report(
+        order,
         &mut no_room,
         c,
         depth,

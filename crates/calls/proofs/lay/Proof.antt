@@ -4,13 +4,13 @@ use Rattle.calls.proofs.lay.Statement.{statement}
 use Rattle.calls.proofs.lay.Tie as tie
 
 returns : tie.Need-returns
-returns c = λ r d. rw (c .before .before .before .before .enum-told .given .1) (record { is = c .before .before .lay-report .ensures _ _ _ r d })
+returns c = λ r d. rw (c .before .before .before .before .before .job .given .1) (record { is = c .before .before .lay-report .ensures _ _ _ r d })
 
 returns-2 : tie.Need-returns-2
-returns-2 c = λ r d. rw (c .before .before .before .before .enum-told2 .given .1) (record { is = c .before .before .lay-clean .ensures _ _ _ r d })
+returns-2 c = λ r d. rw (c .before .before .before .before .enum-told .given .1) (record { is = c .before .before .lay-clean .ensures _ _ _ r d })
 
 returns-3 : tie.Need-returns-3
-returns-3 c = λ r d. rw (c .before .before .before .before .before .before .before .enum-told3 .given .1) (record { is = c .before .before .before .before .lay-both .ensures r d })
+returns-3 c = λ r d. rw (c .before .before .before .before .before .before .before .enum-told2 .given .1) (record { is = c .before .before .before .before .lay-both .ensures r d })
 
 pub lay-spec : {M : Type 1} → statement M
 lay-spec =
