@@ -10,6 +10,7 @@ use native.Mathlib.Nat.{eq-or-lt-of-le}
 use native.Mathlib.Omega.{arith}
 use borrow.Author.Tests.{ltb-true}
 use lib.ListN.{length}
+use Rattle.products.proofs.Ordered.{rising-total}
 use Rattle.guards.specs.Guard.{Guard, holds}
 use Rattle.sheet.specs.Sheet.{Move, Stop, Sheet, isProduct, isValid}
 use Rattle.sheet.specs.Accepted.{Accepted}
@@ -75,15 +76,12 @@ module _ {R : ℕ → ℕ → Type 0} (total : (a b : ℕ) → R a b ⊎ R b a) 
       go (inr f) (yes p) = inl (n, record { is = p; first = below-more (λ j b q. absurd (f j b q)) (λ q. self n) })
       go (inr f) (no o) = inr (below-more f o)
 
-pub le-either : (a b : ℕ) → (a ≤ b) ⊎ (b ≤ a)
-le-either a b = ⊎-elim (λ l. inl (omega arith)) (λ g. inr (⊎-elim (λ e. omega arith) (λ l. omega arith) g)) (compared a b)
-
-pub le-through : (a b c : ℕ) → a ≤ b → b ≤ c → a ≤ c
+le-through : (a b c : ℕ) → a ≤ b → b ≤ c → a ≤ c
 le-through a b c h l = omega arith
 
 -- the smallest
 least-below : {P : ℕ → Type 0} → ((k : ℕ) → Dec (P k)) → (n : ℕ) → Search _≤_ P n
-least-below = search-below le-either le-through
+least-below = search-below rising-total le-through
 
 -- some number has the property, where only numbers below n have it
 dec-below : {P : ℕ → Type 0} (n : ℕ) → ((k : ℕ) → Dec (P k)) → ((k : ℕ) → P k → k < n) → Dec ((k : ℕ) × P k)
@@ -186,7 +184,7 @@ module _ {r : Sheet} (ok : Accepted r) where
 
   -- the largest of the fewest moves
   pub depth-of : (d : ℕ) × Depth r d
-  depth-of = go (search-below {R = λ a b. b ≤ a} (λ a b. le-either b a) (λ a b c h l. le-through c b a l h) dec-deep 64)
+  depth-of = go (search-below {R = λ a b. b ≤ a} (λ a b. rising-total b a) (λ a b c h l. le-through c b a l h) dec-deep 64)
     where
       go : Search (λ a b. b ≤ a) Deep 64 → (d : ℕ) × Depth r d
       go (inl (d, f)) =

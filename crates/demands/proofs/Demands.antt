@@ -9,6 +9,10 @@ use lib.ListN.{length, take, drop}
 use lib.Seq.{take-append-seam}
 use Rattle.refusals.specs.declared.Refusal.{Refusal}
 use Rattle.refusals.specs.Refusal.{refusal}
+use Rattle.products.specs.declared.Order.{Order}
+use Rattle.products.specs.declared.Order.the-variants.{Plainest}
+use Rattle.products.specs.Orders.{bits, fewer, Before}
+use Rattle.products.proofs.Ordered.{before-total, before-one, before-on}
 use Rattle.sheet.specs.Sheet.{Sheet}
 use Rattle.sheet.specs.Reading.{kept, readSheet}
 use Rattle.sheet.proofs.Accepted.{accepted, kept-refused}
@@ -31,11 +35,11 @@ use Rattle.calls.specs.declared.Answers.{Answers}
 use Rattle.calls.specs.declared.Answers.the-variants as two
 use Rattle.calls.specs.Promise.{TooLong, ReportPromise, CleanPromise, BothPromise}
 use Rattle.calls.proofs.Promised.{kept-one, filled-fits, report-promise-determined, clean-promise-determined, both-promise-determined}
-use Rattle.demands.specs.Demands.{Determined, BothDetermined, RoomEnough, BothAsSingle, Verdicts, DepthIsSmall, CleanKeepsTheMoves, CleanedKeepsTheMoves, CleanIsANormalForm, CleanIsClean, TwoRuns, CleanAgainSame, CleanReported}
+use Rattle.demands.specs.Demands.{Determined, BothDetermined, RoomEnough, BothAsSingle, OrderTotal, OrderApart, OrderGoesOn, OrdersDiffer, Verdicts, DepthIsSmall, CleanKeepsTheMoves, CleanedKeepsTheMoves, CleanIsANormalForm, CleanIsClean, TwoRuns, CleanAgainSame, CleanReported}
 
 -- ---- demand 1
 
-pub report-determined : Determined ReportPromise
+pub report-determined : (o : Order) → Determined (ReportPromise o)
 report-determined = report-promise-determined
 
 pub clean-determined : Determined CleanPromise
@@ -45,9 +49,9 @@ pub both-determined : BothDetermined
 both-determined = both-promise-determined
 
 pub room-enough : RoomEnough
-room-enough s room x q h (k, inl f) = f
-room-enough s room x q h (k, inr (r, e, inl z)) = absurd z
-room-enough s room x q h (k, inr (r, e, inr l)) = absurd (omega (arith, l .longer, report-short (accepted s e) (kept-lines s e) (l .is)))
+room-enough o s room x q h (k, inl f) = f
+room-enough o s room x q h (k, inr (r, e, inl z)) = absurd z
+room-enough o s room x q h (k, inr (r, e, inr l)) = absurd (omega (arith, l .longer, report-short (accepted s e) (kept-lines s e) (l .is)))
 
 -- a text that is too long for one call is so for another, with the line that this one gives to 11
 too-long-at : (line : ℕ) {Is : List ℕ → Type 0} {most old : ℕ} {q : Refusal} → TooLong Is most old q → TooLong Is most line (refusal 11 line 0)
@@ -60,16 +64,16 @@ both-as-single s room x y clean u v c h = (done, no-report, no-clean)
     only : (x u : List ℕ) (a : Answers) → BothPromise s room x clean u a → (c ≡ a) × (y ≡ x) × (v ≡ u)
     only x u a k = both-determined s room clean y x v u c a h k
 
-    done : (m n : ℕ) → ReportPromise s room x (one.Done m) → CleanPromise s clean u (one.Done n) → (c ≡ two.Done m n) × (y ≡ x) × (v ≡ u)
+    done : (m n : ℕ) → ReportPromise Plainest s room x (one.Done m) → CleanPromise s clean u (one.Done n) → (c ≡ two.Done m n) × (y ≡ x) × (v ≡ u)
     done m n (r, e, p) (q, f, k) = only x u (two.Done m n) (r, e, p, (rw (kept-one s f e) at k))
 
-    no-report : (r : Sheet) (q : Refusal) → readSheet s ≡ kept r → ReportPromise s room x (one.Refused q)
+    no-report : (r : Sheet) (q : Refusal) → readSheet s ≡ kept r → ReportPromise Plainest s room x (one.Refused q)
         → (c ≡ two.Refused (refusal 11 1 0)) × (y ≡ room) × (v ≡ clean)
     no-report r q e (k, inl f) = absurd (kept-refused s e f)
     no-report r q e (k, inr (t, f, inl z)) = absurd z
     no-report r q e (k, inr (t, f, inr l)) = only room clean (two.Refused (refusal 11 1 0)) (refl, refl, inr (t, f, inl (too-long-at 1 l)))
 
-    no-clean : (m : ℕ) (q : Refusal) → ReportPromise s room x (one.Done m) → CleanPromise s clean u (one.Refused q)
+    no-clean : (m : ℕ) (q : Refusal) → ReportPromise Plainest s room x (one.Done m) → CleanPromise s clean u (one.Refused q)
         → (c ≡ two.Refused (refusal 11 2 0)) × (y ≡ room) × (v ≡ clean)
     no-clean m q (r, e, p) (k, inl f) = absurd (kept-refused s e f)
     no-clean m q (r, e, p) (k, inr (t, f, inl z)) = absurd z
@@ -78,14 +82,27 @@ both-as-single s room x y clean u v c h = (done, no-report, no-clean)
 
 -- ---- demand 2
 
+pub order-total : OrderTotal
+order-total = before-total
+
+pub order-apart : OrderApart
+order-apart = before-one
+
+pub order-goes-on : OrderGoesOn
+order-goes-on = before-on
+
+pub orders-differ : OrdersDiffer
+unfolding bits
+orders-differ = (fewer (omega arith), omega arith)
+
 -- what a call laid is what stands first in its room
 first : (text rest : List ℕ) {n : ℕ} {x : List ℕ} → n ≡ length text → x ≡ text ++ rest → take n x ≡ text
 first text rest {n} e l = ap (take n) l ∙ ap (λ (k : ℕ). take k (text ++ rest)) e ∙ take-append-seam text rest
 
 pub verdicts : Verdicts
-verdicts s room x n (r, k, h) =
+verdicts o s room x n (r, k, h) =
     let e = first (h .text) (drop n room) (h .is-length) (h .laid) in
-    (r, k, accepted s k, subst (IsReport _≤_ r) (sym e) (h .is))
+    (r, k, accepted s k, subst (IsReport (Before o) r) (sym e) (h .is))
 
 pub depth-is-small : DepthIsSmall
 depth-is-small s r d e h = depth-small (accepted s e) h
@@ -157,8 +174,8 @@ clean-again-same s u x v y m (one.Refused q) h (k, inr (r, e, inr l)) fits =
     absurd (omega (arith, l .longer, ap length t, b .3, b .4, fits))
 
 pub clean-reported : CleanReported
-clean-reported s u x v y m n h k =
+clean-reported o s u x v y m n h k =
     let z = own s u x m h in
-    let b = verdicts (take m x) v y n k in
+    let b = verdicts o (take m x) v y n k in
     let c : b .0 ≡ z .0 = cc in
     (z .0, z .1, rw (sym c) (b .3), z .2)

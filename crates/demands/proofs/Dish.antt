@@ -11,6 +11,9 @@ use Rattle.products.specs.Sets.{bit}
 use Rattle.products.specs.declared.Found.the-variants.{At, Nothing}
 use Rattle.fields.specs.Bytes.{sameBytes, allNameBytes, isName, isAction, readState, run, afterRun}
 use Rattle.fields.specs.Cutting.{cut}
+use Rattle.products.specs.declared.Order.{Order}
+use Rattle.products.specs.declared.Order.the-variants.{Plainest, ByNumber}
+use Rattle.products.specs.Orders.{bits, fewer, as-many, Before}
 use Rattle.guards.specs.Guard.{Guard, never, always, feature, choice, holds, partsHold}
 use Rattle.guards.specs.Reading.{number, parts, readGuard, readWhole}
 use Rattle.sheet.specs.Sheet.{Move, names}
@@ -153,32 +156,43 @@ one-holds : HoldsInEvery dish always
 unfolding holds
 one-holds p e = refl
 
-pub raise-judged : JudgedAs _≤_ dish raise (False 1)
-raise-judged = (
+-- in either order its valid products stand as 1, 2, 3
+one-first : (o : Order) (q : ℕ) → Valid dish q → Before o 1 q
+unfolding bits
+one-first Plainest = valid-each (Before Plainest 1) (as-many refl (omega arith)) (as-many refl (omega arith)) (fewer (omega arith))
+one-first ByNumber = valid-each (Before ByNumber 1) (omega arith) (omega arith) (omega arith)
+
+two-next : (o : Order) → Before o 2 2 × Before o 2 3
+unfolding bits
+two-next Plainest = (as-many refl (omega arith), fewer (omega arith))
+two-next ByNumber = (omega arith, omega arith)
+
+pub raise-judged : (o : Order) → JudgedAs (Before o) dish raise (False 1)
+raise-judged o = (
   record { alive = (1, raise-made valid-one); fails = chain-fails; every = λ p v w. raise-made v .makes },
-  record { is = raise-made valid-one; first = λ q h. valid-positive q (h .valid) },
+  record { is = raise-made valid-one; first = λ q h. one-first o q (h .valid) },
 )
 
-pub stow-judged : JudgedAs _≤_ dish stow (Must 1)
-stow-judged = (one-holds, record { is = stow-made valid-one; first = λ q h. valid-positive q (h .valid) })
+pub stow-judged : (o : Order) → JudgedAs (Before o) dish stow (Must 1)
+stow-judged o = (one-holds, record { is = stow-made valid-one; first = λ q h. one-first o q (h .valid) })
 
-pub calm-judged : JudgedAs _≤_ dish calm (May 1 2)
-calm-judged = (
-  record { is = calm-in-one; first = λ q h. valid-positive q (h .valid) },
+pub calm-judged : (o : Order) → JudgedAs (Before o) dish calm (May 1 2)
+calm-judged o = (
+  record { is = calm-in-one; first = λ q h. one-first o q (h .valid) },
   record { is = record { valid = valid-two; reached = reached-two valid-two; unmade = calm-unmade }; first = λ q h. later q (h .valid) h },
 )
   where
-    later : (q : ℕ) → Valid dish q → MissedIn dish calm q → 2 ≤ q
-    later = valid-each (λ q. MissedIn dish calm q → 2 ≤ q) (λ h. absurd (h .unmade (calm-in-one .makes))) (λ h. omega arith) (λ h. omega arith)
+    later : (q : ℕ) → Valid dish q → MissedIn dish calm q → Before o 2 q
+    later = valid-each (λ q. MissedIn dish calm q → Before o 2 q) (λ h. absurd (h .unmade (calm-in-one .makes))) (λ h. two-next o .0) (λ h. two-next o .1)
 
-pub level-judged : JudgedAs _≤_ dish level (Dead (At 1))
-level-judged = (
+pub level-judged : (o : Order) → JudgedAs (Before o) dish level (Dead (At 1))
+level-judged o = (
   (λ p h. level-never p (h .makes .held)),
-  record { is = record { valid = valid-one; reached = reached-one valid-one; unmade = λ m. level-never 1 (m .held) }; first = λ q h. valid-positive q (h .valid) },
+  record { is = record { valid = valid-one; reached = reached-one valid-one; unmade = λ m. level-never 1 (m .held) }; first = λ q h. one-first o q (h .valid) },
 )
 
-pub done-judged : JudgedAs _≤_ dish done (Dead Nothing)
-done-judged = ((λ p h. unreached-three (h .makes .reached)), (λ q h. unreached-three (h .reached)))
+pub done-judged : (o : Order) → JudgedAs (Before o) dish done (Dead Nothing)
+done-judged o = ((λ p h. unreached-three (h .makes .reached)), (λ q h. unreached-three (h .reached)))
 
 -- ---- states 2 and 3
 
@@ -191,8 +205,8 @@ two-makes-none m i =
 calm-leads-out : LeadsOut dish 2 calm
 calm-leads-out = record { there = has-calm; source = refl }
 
-pub two-hidden : StateAs _≤_ dish 2 (Hidden 2)
-two-hidden = (
+pub two-hidden : (o : Order) → StateAs (Before o) dish 2 (Hidden 2)
+two-hidden o = (
   (calm, calm-leads-out),
   record {
     is = record {
@@ -205,8 +219,10 @@ two-hidden = (
   },
 )
   where
-    later : (q : ℕ) → Valid dish q → Stuck dish 2 q → 2 ≤ q
-    later = valid-each (λ q. Stuck dish 2 q → 2 ≤ q) (λ h. absurd (h .makes-none calm calm-leads-out (calm-in-one .makes))) (λ h. omega arith) (λ h. omega arith)
+    later : (q : ℕ) → Valid dish q → Stuck dish 2 q → Before o 2 q
+    later =
+        valid-each (λ q. Stuck dish 2 q → Before o 2 q) (λ h. absurd (h .makes-none calm calm-leads-out (calm-in-one .makes))) (λ h. two-next o .0)
+        (λ h. two-next o .1)
 
 two-reached : {p : ℕ} → Valid dish p → ReachedIn dish 2 p
 two-reached v = record { valid = v; reached = reached-two v }
@@ -216,8 +232,8 @@ two-counted =
     counted-more 1020 (λ p l h. omega (arith, valid-parts (h .valid) .0))
     (counts (two-reached valid-three) (counts (two-reached valid-two) (counts (two-reached valid-one) (passes (λ h. invalid-zero (h .valid)) nobody))))
 
-pub three-unreached : StateAs _≤_ dish 3 Unreached
-three-unreached p h = unreached-three (h .reached)
+pub three-unreached : (o : Order) → StateAs (Before o) dish 3 Unreached
+three-unreached o p h = unreached-three (h .reached)
 
 pub three-counted : Counted (ReachedIn dish 3) 1024 0
 three-counted = counted-more 1024 (λ p l h. unreached-three (h .reached)) nobody

@@ -10,6 +10,7 @@ use native.Mathlib.Omega.{arith}
 use Rattle.products.specs.declared.Found.{Found}
 use Rattle.products.specs.declared.Found.the-variants.{At, Nothing}
 use Rattle.products.specs.Sets.{Finds}
+use Rattle.products.proofs.Ordered.{before-total, before-on}
 use Rattle.guards.specs.Guard.{Guard, always}
 use Rattle.sheet.specs.Sheet.{Move, Stop, Sheet}
 use Rattle.sheet.specs.Spelling.{textOf}
@@ -32,9 +33,9 @@ use Rattle.ordering.proofs.Laws.{less-trans, less-total}
 use Rattle.normal.specs.Clean.{count, keyOf, Kept, GuardFor, Stays, Leaves, Rising, MoveBefore, StopBefore, IsClean}
 use Rattle.cleaning.proofs.Made.{makes-goes, made-goes, missed-goes}
 use Rattle.demands.specs.Demands.{ReportExists, CleanExists}
-use Rattle.demands.proofs.Decided.{of-more, below-more, Search, search-below, le-either, le-through, dec-fails, holds-unless, dec-product, dec-valid, dec-reached-in, depth-of, dec-made, dec-missed, made-by-all, dec-named, dec-leads-out, dec-stays, dec-stuck, dec-leaves, dec-declares, dec-untrue}
+use Rattle.demands.proofs.Decided.{of-more, below-more, Search, search-below, dec-fails, holds-unless, dec-product, dec-valid, dec-reached-in, depth-of, dec-made, dec-missed, made-by-all, dec-named, dec-leads-out, dec-stays, dec-stuck, dec-leaves, dec-declares, dec-untrue}
 
--- ---- the report, whatever the order by which the smallest product is found
+-- ---- the report, whatever the order by which the first product is found
 
 -- how many numbers below n have a property that is decided
 counted : {P : ℕ → Type 0} → ((k : ℕ) → Dec (P k)) → (n : ℕ) → (k : ℕ) × Counted P n k
@@ -118,7 +119,7 @@ module _ {R : ℕ → ℕ → Type 0} (total : (a b : ℕ) → R a b ⊎ R b a) 
       )
 
 pub report-exists : ReportExists
-report-exists s r e = report-of le-either le-through (accepted s e)
+report-exists o s r e = report-of (before-total o) (before-on o) (accepted s e)
 
 -- ---- the lines of the clean sheet
 

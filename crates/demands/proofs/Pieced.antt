@@ -5,10 +5,15 @@ use mathlib.Core.List.{List·Memᴰ·head, List·Memᴰ·tail}
 use mathlib.Core.Path.{_≡_, refl}
 use Prim.Native.Nat.{ℕ, zero, suc, _≤_, _<_}
 use native.Mathlib.Omega.{arith}
+use borrow.Author.Tests.{ltb-true}
+use lib.Dec.{ltb}
 use Rattle.products.specs.declared.Found.the-variants.{At}
+use Rattle.products.specs.declared.Order.{Order}
+use Rattle.products.specs.Orders.{Before}
+use Rattle.products.proofs.Ordered.{before-self}
 use Rattle.fields.specs.Bytes.{sameBytes, allNameBytes, isName, isAction, readState, run, afterRun}
 use Rattle.fields.specs.Cutting.{cut}
-use Rattle.guards.specs.Guard.{feature, holds}
+use Rattle.guards.specs.Guard.{always, feature, holds}
 use Rattle.guards.specs.Reading.{number, parts, readGuard, readWhole}
 use Rattle.sheet.specs.Sheet.{names}
 use Rattle.sheet.specs.Reading.{kept, ftsLine, featureLine, validLine, startLine, guardedMove, moveLine, moved, readLine, ended, readLines, last, readSheet}
@@ -18,7 +23,7 @@ use Rattle.verdicts.specs.declared.Verdict.the-variants.{Dead}
 use Rattle.verdicts.specs.Verdicts.{Makes, MissedIn, JudgedAs}
 use Rattle.demands.specs.Printed.{onto, bytes, printed}
 use Rattle.demands.specs.Examples.{piecedText, first, second, pieced}
-use Rattle.demands.proofs.Facts.{apart, each}
+use Rattle.demands.proofs.Facts.{apart, each, both-true}
 
 pub pieced-read : readSheet piecedText ≡ kept pieced
 unfolding piecedText onto bytes printed cut sameBytes allNameBytes isName isAction readState run afterRun number parts readGuard readWhole holds names ftsLine featureLine validLine startLine guardedMove moveLine moved readLine reading.none ended readLines last readSheet
@@ -63,5 +68,12 @@ unfolding holds
 missed-later zero h = absurd (apart (beyond (h .reached) (omega arith)))
 missed-later (suc q) h = omega arith
 
-pub second-judged : JudgedAs _≤_ pieced second (Dead (At 1))
-second-judged = ((λ p h. unmade (h .makes)), record { is = record { valid = one-valid; reached = reached-one; unmade = unmade }; first = missed-later })
+-- so the one that misses the move is 1, in either order
+missed-first : (o : Order) (q : ℕ) → MissedIn pieced second q → Before o 1 q
+missed-first o q h =
+    let small = ltb-true q 2 (both-true (ltb q 2) (holds always q) (h .valid .is) .0) in
+    let e : q ≡ 1 = omega (arith, missed-later q h) in
+    rw e (before-self o 1)
+
+pub second-judged : (o : Order) → JudgedAs (Before o) pieced second (Dead (At 1))
+second-judged o = ((λ p h. unmade (h .makes)), record { is = record { valid = one-valid; reached = reached-one; unmade = unmade }; first = missed-first o })

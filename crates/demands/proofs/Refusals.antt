@@ -15,6 +15,8 @@ use Rattle.guards.specs.Guard.{holds}
 use Rattle.guards.specs.Reading.{number, parts, readGuard, readWhole}
 use Rattle.refusals.specs.declared.Refusal.{Refusal}
 use Rattle.refusals.specs.Refusal.{refusal}
+use Rattle.products.specs.declared.Order.{Order}
+use Rattle.products.specs.Orders.{Before}
 use Rattle.sheet.specs.Sheet.{Sheet, names}
 use Rattle.sheet.specs.Spelling.{joined, textOf}
 use Rattle.sheet.specs.Reading.{kept, refused, ftsLine, featureLine, validLine, startLine, readLine, ended, readLines, last, readSheet}
@@ -90,20 +92,20 @@ module _ (Is : Sheet → List ℕ → Type 0) (most : List ℕ → ℕ) where
   one-cut : Cut Call
   one-cut s room x a = (one-as (take 65537 s) s (cut-same s) room x a, one-as s (take 65537 s) (sym (cut-same s)) room x a)
 
-pub report-refusals : Refusals ReportPromise
-report-refusals = one-refusals (IsReport _≤_) length
+pub report-refusals : (o : Order) → Refusals (ReportPromise o)
+report-refusals o = one-refusals (IsReport (Before o)) length
 
 pub clean-refusals : Refusals CleanPromise
 clean-refusals = one-refusals IsClean cleanMost
 
-pub report-told : Told ReportPromise
-report-told = one-told (IsReport _≤_) length
+pub report-told : (o : Order) → Told (ReportPromise o)
+report-told o = one-told (IsReport (Before o)) length
 
 pub clean-told : Told CleanPromise
 clean-told = one-told IsClean cleanMost
 
-pub report-cut : Cut ReportPromise
-report-cut = one-cut (IsReport _≤_) length
+pub report-cut : (o : Order) → Cut (ReportPromise o)
+report-cut o = one-cut (IsReport (Before o)) length
 
 pub clean-cut : Cut CleanPromise
 clean-cut = one-cut IsClean cleanMost
@@ -191,14 +193,14 @@ place-determined s q r n = (byte-place s n, λ e. field-place s e n)
 
 pub table-refuses : TableRefuses
 table-refuses s q f = (
-  λ room x a k. report-determined s room x room a (one.Refused q) k (refl, inl f),
+  λ o room x a k. report-determined o s room x room a (one.Refused q) k (refl, inl f),
   λ room x a k. clean-determined s room x room a (one.Refused q) k (refl, inl f),
   λ room x clean u a k. both-determined s room clean x room u clean a (two.Refused q) k (refl, refl, inl f),
 )
 
 -- ---- 11, in a room without a byte: neither text is empty
 
-report-long : {r : Sheet} {x : List ℕ} → IsReport _≤_ r x → 0 < length x
+report-long : {R : ℕ → ℕ → Type 0} {r : Sheet} {x : List ℕ} → IsReport R r x → 0 < length x
 unfolding depthRow
 report-long i =
     let e = ap length (i .is) in
@@ -219,7 +221,7 @@ both-eleven s x clean u r e (two.Refused q) (k, j, inr (t, f, inr (h, l))) = abs
 
 pub eleven-given : ElevenGiven
 eleven-given s x clean u r e = (
-  one-eleven (IsReport _≤_) length (λ r y i. report-long i) s x r e,
+  λ o. one-eleven (IsReport (Before o)) length (λ r y i. report-long i) s x r e,
   one-eleven IsClean cleanMost (λ r y i. clean-long i) s x r e,
   both-eleven s x clean u r e,
 )

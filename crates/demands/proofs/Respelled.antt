@@ -4,11 +4,14 @@ use mathlib.Core.Path.{_≡_, refl, sym, ap, subst, _∙_}
 use mathlib.Core.Bool.{Bool, true, false, not, _||_}
 use mathlib.Core.List.{List, List·Memᴰ, List·Memᴰ·head, List·Memᴰ·tail}
 use mathlib.Core.Logic.{inl, inr}
-use Prim.Native.Nat.{ℕ, _≤_}
+use Prim.Native.Nat.{ℕ}
 use lib.Dec.{eqb}
 use lib.ListN.{length}
 use Rattle.refusals.specs.declared.Refusal.{Refusal}
 use Rattle.products.specs.Sets.{bit}
+use Rattle.products.specs.declared.Order.{Order}
+use Rattle.products.specs.declared.Order.the-variants.{Plainest}
+use Rattle.products.specs.Orders.{Before}
 use Rattle.guards.specs.Guard.{holds, partsHold}
 use Rattle.sheet.specs.Sheet.{Move, Stop, Sheet, names, isProduct}
 use Rattle.sheet.specs.Reading.{kept, readSheet}
@@ -274,7 +277,7 @@ clean-too : {r q : Sheet} {x : List ℕ} → Respelled r q → IsClean r x → I
 clean-too e i = record { form = i .form; clean = carry (same-too e) (ap names (e .features)) (i .clean); is = i .is }
 
 pub spelling-isnt-meaning : SpellingIsntMeaning
-spelling-isnt-meaning r q e = (λ x. (report-too e, report-too (turned e)), λ x. (clean-too e, clean-too (turned e)), same-too e)
+spelling-isnt-meaning r q e = (λ o x. (report-too e, report-too (turned e)), λ x. (clean-too e, clean-too (turned e)), same-too e)
 
 -- ---- the calls: what one promises of a sheet, it promises of the other, and promises are determined
 
@@ -300,17 +303,17 @@ module _ (s t : List ℕ) {r q : Sheet} (e : readSheet s ≡ kept r) (f : readSh
   one-too Is most c room x (one.Refused d) (h, inr (k, g, inl z)) = absurd z
   one-too Is most c room x (one.Refused d) (h, inr (k, g, inr z)) = (h, inr (q, f, inr (long-too (as-read Is c g) z)))
 
-  both-too : ((x : List ℕ) → IsReport _≤_ r x → IsReport _≤_ q x) → ((x : List ℕ) → IsClean r x → IsClean q x) → (room x clean u : List ℕ) (a : Answers)
+  both-too : ((x : List ℕ) → IsReport (Before Plainest) r x → IsReport (Before Plainest) q x) → ((x : List ℕ) → IsClean r x → IsClean q x) → (room x clean u : List ℕ) (a : Answers)
       → BothPromise s room x clean u a → BothPromise t room x clean u a
-  both-too c d room x clean u (two.Done n m) (k, h, p, l) = (q, f, filled-too (as-read (IsReport _≤_) c h) p, filled-too (as-read IsClean d h) l)
+  both-too c d room x clean u (two.Done n m) (k, h, p, l) = (q, f, filled-too (as-read (IsReport (Before Plainest)) c h) p, filled-too (as-read IsClean d h) l)
   both-too c d room x clean u (two.Refused o) (h, i, inl k) = absurd (kept-refused s e k)
-  both-too c d room x clean u (two.Refused o) (h, i, inr (k, g, inl z)) = (h, i, inr (q, f, inl (long-too (as-read (IsReport _≤_) c g) z)))
+  both-too c d room x clean u (two.Refused o) (h, i, inr (k, g, inl z)) = (h, i, inr (q, f, inl (long-too (as-read (IsReport (Before Plainest)) c g) z)))
   both-too c d room x clean u (two.Refused o) (h, i, inr (k, g, inr (w, z))) =
-      (h, i, inr (q, f, inr (fits-too (as-read (IsReport _≤_) c g) w, long-too (as-read IsClean d g) z)))
+      (h, i, inr (q, f, inr (fits-too (as-read (IsReport (Before Plainest)) c g) w, long-too (as-read IsClean d g) z)))
 
-pub respelled-report : SameAnswer ReportPromise
-respelled-report s t room x y a b r q e f z h k =
-    report-promise-determined t room x y a b (one-too s t e f (IsReport _≤_) (length room) (λ w. report-too z) room x a h) k
+pub respelled-report : (o : Order) → SameAnswer (ReportPromise o)
+respelled-report o s t room x y a b r q e f z h k =
+    report-promise-determined o t room x y a b (one-too s t e f (IsReport (Before o)) (length room) (λ w. report-too z) room x a h) k
 
 pub respelled-clean : SameAnswer CleanPromise
 respelled-clean s t room x y a b r q e f z h k = clean-promise-determined t room x y a b (one-too s t e f IsClean (cleanMost room) (λ w. clean-too z) room x a h) k
@@ -327,4 +330,4 @@ either-way false = refl
 
 pub dealers-guard : DealersGuard
 unfolding holds partsHold
-dealers-guard r m f p e l = (λ q i. rw e (either-way (eqb (bit q f) 1)), l)
+dealers-guard o r m f p e l = (λ q i. rw e (either-way (eqb (bit q f) 1)), l)

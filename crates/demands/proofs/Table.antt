@@ -1,8 +1,10 @@
 -- The table of worked examples is true: each row by what Dish, Pieced and Three show of its sheet, its bytes by computing. Assumes nothing.
 use mathlib.Core.List.{List, [], _∷_, _++_}
 use mathlib.Core.Path.{_≡_, refl, subst}
-use Prim.Native.Nat.{ℕ, _≤_}
+use Prim.Native.Nat.{ℕ}
 use Rattle.products.specs.declared.Found.the-variants.{At, Nothing}
+use Rattle.products.specs.declared.Order.{Order}
+use Rattle.products.specs.Orders.{Before}
 use Rattle.text.specs.Text.{digits, decimal}
 use Rattle.guards.specs.Guard.{nameOf, print}
 use Rattle.sheet.specs.Sheet.{names}
@@ -24,33 +26,33 @@ five-printed : five ≡ printed ("move\t6\tfalse\t1\t-" ∷ "move\t7\tmust\t1\t-
 unfolding five onto printed digits decimal foundText word madeOf missedOf moveRow
 five-printed = refl
 
-five-rows : MoveRows _≤_ dish (dish .moves) five
+five-rows : (o : Order) → MoveRows (Before o) dish (dish .moves) five
 unfolding five
-five-rows =
-    rows.next (Dead Nothing) done-judged
-    (rows.next (Dead (At 1)) level-judged (rows.next (May 1 2) calm-judged (rows.next (Must 1) stow-judged (rows.next (False 1) raise-judged rows.none))))
+five-rows o =
+    rows.next (Dead Nothing) (done-judged o)
+    (rows.next (Dead (At 1)) (level-judged o) (rows.next (May 1 2) (calm-judged o) (rows.next (Must 1) (stow-judged o) (rows.next (False 1) (raise-judged o) rows.none))))
 
-pub the-table : TheTable
+pub the-table : (o : Order) → TheTable o
 unfolding onto bytes printed digits decimal foundText word madeOf missedOf stateWord hiddenOf moveRow stateRow depthRow nameOf print names
-the-table =
+the-table o =
     record {
       sheet = dish-read;
-      move-6 = record { judged = raise-judged; row = refl };
-      move-7 = record { judged = stow-judged; row = refl };
-      move-8 = record { judged = calm-judged; row = refl };
-      move-9 = record { judged = level-judged; row = refl };
-      move-10 = record { judged = done-judged; row = refl };
-      moves = subst (MoveRows _≤_ dish (dish .moves)) five-printed five-rows;
-      state-2 = record { verdict = two-hidden; counted = two-counted; row = refl };
-      state-3 = record { verdict = three-unreached; counted = three-counted; row = refl };
+      move-6 = record { judged = raise-judged o; row = refl };
+      move-7 = record { judged = stow-judged o; row = refl };
+      move-8 = record { judged = calm-judged o; row = refl };
+      move-9 = record { judged = level-judged o; row = refl };
+      move-10 = record { judged = done-judged o; row = refl };
+      moves = subst (MoveRows (Before o) dish (dish .moves)) five-printed (five-rows o);
+      state-2 = record { verdict = two-hidden o; counted = two-counted; row = refl };
+      state-3 = record { verdict = three-unreached o; counted = three-counted; row = refl };
       depth = record { depth = dish-depth; row = refl };
       valid = record { guard = validGuard; writes = valid-written; spelled = refl };
       stop = record { guard = stopGuard; writes = stop-written; spelled = refl };
       leaves = two-leaves;
       pieced-sheet = pieced-read;
       pieced-valid = all-valid;
-      pieced-move = record { judged = second-judged; row = refl };
+      pieced-move = record { judged = second-judged o; row = refl };
       three-sheet = three-read;
-      three-state = record { verdict = zero-end; counted = zero-counted; row = refl };
+      three-state = record { verdict = zero-end o; counted = zero-counted; row = refl };
       three-depth = record { depth = three-depth; row = refl };
     }

@@ -5,6 +5,8 @@ use Prim.Native.Nat.{ℕ, _≤_, _<_}
 use native.Mathlib.Omega.{arith}
 use borrow.Author.Tests.{ltb-true}
 use lib.Dec.{ltb}
+use Rattle.products.specs.declared.Order.{Order}
+use Rattle.products.specs.Orders.{Before}
 use Rattle.fields.specs.Bytes.{sameBytes, readState}
 use Rattle.fields.specs.Cutting.{cut}
 use Rattle.guards.specs.Guard.{always, holds}
@@ -34,8 +36,8 @@ valid-zero {p} v = ltb-true p 1 (both-true (ltb p 1) (holds always p) (v .is) .0
 zero-reached : ReachedIn three 0 0
 zero-reached = record { valid = zero-valid; reached = begin }
 
-pub zero-end : StateAs _≤_ three 0 End
-zero-end = ((0, zero-reached), (λ m l. List·Memᴰ·not-nil (l .there)))
+pub zero-end : (o : Order) → StateAs (Before o) three 0 End
+zero-end o = ((0, zero-reached), (λ m l. List·Memᴰ·not-nil (l .there)))
 
 pub zero-counted : Counted (ReachedIn three 0) 1024 1
 zero-counted = counted-more 1023 (λ p l h. omega (arith, valid-zero (h .valid))) (counts zero-reached nobody)

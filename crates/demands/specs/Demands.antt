@@ -10,7 +10,10 @@ use Prim.Native.Nat.{ℕ, _+_, _≤_}
 use lib.ListN.{length, take}
 use Rattle.refusals.specs.declared.Refusal.{Refusal}
 use Rattle.refusals.specs.Refusal.{refusal}
+use Rattle.products.specs.declared.Order.{Order}
+use Rattle.products.specs.declared.Order.the-variants.{Plainest, ByNumber}
 use Rattle.products.specs.Sets.{Least}
+use Rattle.products.specs.Orders.{Before}
 use Rattle.guards.specs.Guard.{disj, feature, neg, chain, one as single}
 use Rattle.sheet.specs.Sheet.{Move, Sheet, names, isValid}
 use Rattle.sheet.specs.Reading.{kept, refused, readSheet}
@@ -41,9 +44,9 @@ use Rattle.demands.specs.Examples.{dishText}
 use Rattle.demands.specs.Respelled.{Respelled}
 
 -- ---- demand 1: any bytes, any room: the work or a refusal from the table. What is so of both calls with one room is said once, of a call that promises
--- P of the sheet, the room before, the room after and the answer; P is ReportPromise or CleanPromise.
+-- P of the sheet, the room before, the room after and the answer; P is ReportPromise of either order, or CleanPromise.
 
--- report-determined, clean-determined: any two answers with final rooms that meet the promise for one sheet and one room are equal.
+-- report-determined, clean-determined: in either order, any two answers with final rooms that meet the promise for one sheet and one room are equal.
 abbrev pub Determined : (List ℕ → List ℕ → List ℕ → Answer → Type 0) → Type 0
 Determined P = (s room x y : List ℕ) (a b : Answer) → P s room x a → P s room y b → (a ≡ b) × (x ≡ y)
 
@@ -72,7 +75,7 @@ BothTold =
 abbrev pub TableRefuses : Type 0
 TableRefuses =
     (s : List ℕ) (q : Refusal) → readSheet s ≡ refused q
-    → ((room x : List ℕ) (a : Answer) → ReportPromise s room x a → (a ≡ one.Refused q) × (x ≡ room))
+    → ((o : Order) (room x : List ℕ) (a : Answer) → ReportPromise o s room x a → (a ≡ one.Refused q) × (x ≡ room))
     × ((room x : List ℕ) (a : Answer) → CleanPromise s room x a → (a ≡ one.Refused q) × (x ≡ room))
     × ((room x clean u : List ℕ) (a : Answers) → BothPromise s room x clean u a → (a ≡ two.Refused q) × (x ≡ room) × (u ≡ clean))
 
@@ -109,12 +112,13 @@ PlaceDetermined =
 abbrev pub ElevenGiven : Type 0
 ElevenGiven =
     (s x clean u : List ℕ) (r : Sheet) → readSheet s ≡ kept r
-    → ((a : Answer) → ReportPromise s [] x a → a ≡ one.Refused (refusal 11 0 0)) × ((a : Answer) → CleanPromise s [] x a → a ≡ one.Refused (refusal 11 0 0))
+    → ((o : Order) (a : Answer) → ReportPromise o s [] x a → a ≡ one.Refused (refusal 11 0 0))
+    × ((a : Answer) → CleanPromise s [] x a → a ≡ one.Refused (refusal 11 0 0))
     × ((a : Answers) → BothPromise s [] x clean u a → a ≡ two.Refused (refusal 11 1 0))
 
--- room-enough: no report has more than 9,545 bytes; in a room of so many `report` refuses nothing but what the table refuses.
+-- room-enough: no report has more than 9,545 bytes; in a room of so many neither call refuses anything but what the table refuses.
 abbrev pub RoomEnough : Type 0
-RoomEnough = (s room x : List ℕ) (q : Refusal) → 9545 ≤ length room → ReportPromise s room x (one.Refused q) → readSheet s ≡ refused q
+RoomEnough = (o : Order) (s room x : List ℕ) (q : Refusal) → 9545 ≤ length room → ReportPromise o s room x (one.Refused q) → readSheet s ≡ refused q
 
 -- report-cut, clean-cut, both-cut: of a longer input the first 65,537 bytes are enough, as the programs keep them.
 abbrev pub Cut : (List ℕ → List ℕ → List ℕ → Answer → Type 0) → Type 0
@@ -123,34 +127,52 @@ Cut P = (s room x : List ℕ) (a : Answer) → P (take 65537 s) room x a ↔ P s
 abbrev pub BothCut : Type 0
 BothCut = (s room x clean u : List ℕ) (a : Answers) → BothPromise (take 65537 s) room x clean u a ↔ BothPromise s room x clean u a
 
--- both-as-single: "Both texts equal those of the single calls", with the same lengths and rooms, where both single calls are done. Where
+-- both-as-single: "Both texts equal those of the single calls, the report in the default order", with the same lengths and rooms, where both single calls are done. Where
 -- one of them gives 11 to an accepted sheet, this one gives 11 with line 1 for the report, else with line 2 for the clean sheet, and "neither room changes".
 abbrev pub BothAsSingle : Type 0
 BothAsSingle =
     (s room x y clean u v : List ℕ) (c : Answers) → BothPromise s room y clean v c
-    → ((m n : ℕ) → ReportPromise s room x (one.Done m) → CleanPromise s clean u (one.Done n) → (c ≡ two.Done m n) × (y ≡ x) × (v ≡ u))
-    × ((r : Sheet) (q : Refusal) → readSheet s ≡ kept r → ReportPromise s room x (one.Refused q) → (c ≡ two.Refused (refusal 11 1 0)) × (y ≡ room) × (v ≡ clean))
-    × ((m : ℕ) (q : Refusal) → ReportPromise s room x (one.Done m) → CleanPromise s clean u (one.Refused q) → (c ≡ two.Refused (refusal 11 2 0)) × (y ≡ room) × (v ≡ clean))
+    → ((m n : ℕ) → ReportPromise Plainest s room x (one.Done m) → CleanPromise s clean u (one.Done n) → (c ≡ two.Done m n) × (y ≡ x) × (v ≡ u))
+    × ((r : Sheet) (q : Refusal) → readSheet s ≡ kept r → ReportPromise Plainest s room x (one.Refused q) → (c ≡ two.Refused (refusal 11 1 0)) × (y ≡ room) × (v ≡ clean))
+    × ((m : ℕ) (q : Refusal) → ReportPromise Plainest s room x (one.Done m) → CleanPromise s clean u (one.Refused q) → (c ≡ two.Refused (refusal 11 2 0)) × (y ≡ room) × (v ≡ clean))
 
--- ---- demand 2: the verdicts of the published definitions, and the same moves in the clean sheet
+-- ---- demand 2: the verdicts of the published definitions, and the same moves in the clean sheet. "Demand 2 reads "smallest" in the order chosen": what is
+-- said of a report is said for either order
+
+-- order-total, order-apart, order-goes-on: of any two products one stands before the other; no two products stand before each other; and what stands
+-- before one that stands before a third stands before that.
+abbrev pub OrderTotal : Type 0
+OrderTotal = (o : Order) (p q : ℕ) → Before o p q ⊎ Before o q p
+
+abbrev pub OrderApart : Type 0
+OrderApart = (o : Order) (p q : ℕ) → Before o p q → Before o q p → p ≡ q
+
+abbrev pub OrderGoesOn : Type 0
+OrderGoesOn = (o : Order) (p q r : ℕ) → Before o p q → Before o q r → Before o p r
+
+-- orders-differ: the third feature alone, product 4, is plainer than the first two together, product 3, which has the smaller number.
+abbrev pub OrdersDiffer : Type 0
+OrdersDiffer = Before Plainest 4 3 × Before ByNumber 3 4
 
 -- report-exists, clean-exists: every accepted sheet has a report and a clean sheet.
 abbrev pub ReportExists : Type 0
-ReportExists = (s : List ℕ) (r : Sheet) → readSheet s ≡ kept r → (x : List ℕ) × IsReport _≤_ r x
+ReportExists = (o : Order) (s : List ℕ) (r : Sheet) → readSheet s ≡ kept r → (x : List ℕ) × IsReport (Before o) r x
 
 abbrev pub CleanExists : Type 0
 CleanExists = (s : List ℕ) (r : Sheet) → readSheet s ≡ kept r → (x : List ℕ) × IsClean r x
 
--- verdicts: where `report` is done with n, the sheet is accepted and the first n bytes of the room are its report: each row carries the verdict,
+-- verdicts: where a report is done with n, the sheet is accepted and the first n bytes of the room are its report: each row carries the verdict,
 -- products, count and depth of the definitions, over every valid product.
 abbrev pub Verdicts : Type 0
-Verdicts = (s room x : List ℕ) (n : ℕ) → ReportPromise s room x (one.Done n) → (r : Sheet) × (readSheet s ≡ kept r) × Accepted r × IsReport _≤_ r (take n x)
+Verdicts =
+    (o : Order) (s room x : List ℕ) (n : ℕ) → ReportPromise o s room x (one.Done n)
+    → (r : Sheet) × (readSheet s ≡ kept r) × Accepted r × IsReport (Before o) r (take n x)
 
 -- spelling-isnt-meaning: "Spelling isn't meaning", for guards are functions: two sheets that differ in nothing but how their guards are spelled have the same
 -- report and the same clean sheet, and behave alike.
 abbrev pub SpellingIsntMeaning : Type 0
 SpellingIsntMeaning =
-    (r q : Sheet) → Respelled r q → ((x : List ℕ) → IsReport _≤_ r x ↔ IsReport _≤_ q x) × ((x : List ℕ) → IsClean r x ↔ IsClean q x) × Same r q
+    (r q : Sheet) → Respelled r q → ((o : Order) (x : List ℕ) → IsReport (Before o) r x ↔ IsReport (Before o) q x) × ((x : List ℕ) → IsClean r x ↔ IsClean q x) × Same r q
 
 -- respelled-report, respelled-clean, respelled-both: so a call on either of them, in a room of one content, gives the same answer and leaves the same bytes.
 abbrev pub SameAnswer : (List ℕ → List ℕ → List ℕ → Answer → Type 0) → Type 0
@@ -166,7 +188,8 @@ BothSameAnswer =
 -- dealers-guard: "A dealer wrote `(boat|!boat)` and got `false`". A move with such a guard, of whatever feature, is `must` if a valid product makes it.
 abbrev pub DealersGuard : Type 0
 DealersGuard =
-    (r : Sheet) (m : Move) (f p : ℕ) → m .guard ≡ chain disj (single (feature f)) (neg (feature f)) → Least _≤_ (MadeIn r m) p → JudgedAs _≤_ r m (Must p)
+    (o : Order) (r : Sheet) (m : Move) (f p : ℕ) → m .guard ≡ chain disj (single (feature f)) (neg (feature f)) → Least (Before o) (MadeIn r m) p
+    → JudgedAs (Before o) r m (Must p)
 
 -- depth-is-small: "The depth is never more than 63."
 abbrev pub DepthIsSmall : Type 0
@@ -212,11 +235,11 @@ CleanAgainSame =
     (s u x v y : List ℕ) (m : ℕ) (a : Answer) → CleanPromise s u x (one.Done m) → CleanPromise (take m x) v y a → m ≤ length v
     → (a ≡ one.Done m) × (take m y ≡ take m x)
 
--- clean-reported: `report` on what `clean` laid is a report of a sheet without faults.
+-- clean-reported: a report on what `clean` laid is a report of a sheet without faults.
 abbrev pub CleanReported : Type 0
 CleanReported =
-    (s u x v y : List ℕ) (m n : ℕ) → CleanPromise s u x (one.Done m) → ReportPromise (take m x) v y (one.Done n)
-    → (c : Sheet) × (readSheet (take m x) ≡ kept c) × IsReport _≤_ c (take n y) × Faultless c
+    (o : Order) (s u x v y : List ℕ) (m n : ℕ) → CleanPromise s u x (one.Done m) → ReportPromise o (take m x) v y (one.Done n)
+    → (c : Sheet) × (readSheet (take m x) ≡ kept c) × IsReport (Before o) c (take n y) × Faultless c
 
 -- ---- "The box that runs from its sheet". `Acts` is what an action promises of a box that is given by value, and of one that is lent
 

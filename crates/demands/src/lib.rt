@@ -1,15 +1,24 @@
 // The demands on one page. The laws stand in specs/Demands.antt and specs/Table.antt; what a call promises
 // is said here, by a call of it and nothing else.
+ghost use Rattle.products.specs.declared.Order.{Order};
 ghost use Rattle.calls.specs.Promise.{ReportPromise, CleanPromise, BothPromise};
 ghost use Rattle.running.specs.Promise.{SetsUp, Acts};
 
 // Report promise: for every sheet and every room, refused with the table's number, line and place and
 // every byte of the room kept; or 11, every byte kept, exactly if the report is longer than the room; or
-// done with its length, the first bytes the report of this sheet and the rest kept.
+// done with its length, the first bytes the report of this sheet and the rest kept. Each product in it is
+// the plainest.
 pub fn report_promise(text: &[u8], room: &mut [u8]) -> calls::Answer
-    ensures { λ r. ⌜ ReportPromise (now (text .entry)) (now (room .entry)) (now (room .exit)) r ⌝ }
+    ensures { λ r. ⌜ ReportPromise Order.Plainest (now (text .entry)) (now (room .entry)) (now (room .exit)) r ⌝ }
 {
     calls::report(text, room)
+}
+
+// Report promise, by number: the same, and each product is the one with the smallest number.
+pub fn report_by_number_promise(text: &[u8], room: &mut [u8]) -> calls::Answer
+    ensures { λ r. ⌜ ReportPromise Order.ByNumber (now (text .entry)) (now (room .entry)) (now (room .exit)) r ⌝ }
+{
+    calls::report_by_number(text, room)
 }
 
 // Clean promise: the same of the clean sheet, with 11 also where it is longer than 65,536 bytes.

@@ -37,7 +37,7 @@ plainer-on (fewer a) (as-many e b) = fewer (omega arith)
 plainer-on (as-many e a) (fewer b) = fewer (omega arith)
 plainer-on (as-many e a) (as-many f b) = as-many (omega arith) (omega arith)
 
-rising-total : (p q : ℕ) → (p ≤ q) ⊎ (q ≤ p)
+pub rising-total : (p q : ℕ) → (p ≤ q) ⊎ (q ≤ p)
 rising-total p q = by (decLt q p)
   where
     by : Dec (q < p) → (p ≤ q) ⊎ (q ≤ p)
@@ -62,6 +62,10 @@ before-total ByNumber p q = rising-total p q
 pub before-one : (o : Order) (p q : ℕ) → Before o p q → Before o q p → p ≡ q
 before-one Plainest p q a b = plainer-one a b
 before-one ByNumber p q a b = omega arith
+
+-- each stands where it stands
+pub before-self : (o : Order) (p : ℕ) → Before o p p
+before-self o p = ⊎-elim (λ b. b) (λ b. b) (before-total o p p)
 
 pub before-on : (o : Order) (p q s : ℕ) → Before o p q → Before o q s → Before o p s
 before-on Plainest p q s a b = plainer-on a b
