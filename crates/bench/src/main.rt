@@ -1,5 +1,6 @@
-// Runs the report, the clean sheet or both of the sheet on standard input many times over and writes what
-// the last run gave: `bench report 1000`, `bench clean 1000` or `bench both 1000`. Nothing is measured here.
+// Runs the report, the one by number, the clean sheet or report and clean sheet of the sheet on standard input
+// many times over and writes what the last run gave: `bench report 1000`, `bench report_by_number 1000`,
+// `bench clean 1000` or `bench both 1000`. Nothing is measured here.
 use calls::Answers;
 use console::Input;
 use fields::Number;
@@ -8,6 +9,7 @@ use tables::MOST_BYTES;
 // The call that is run.
 enum Mode {
     Report,
+    ByNumber,
     Clean,
     Both,
     None,
@@ -27,7 +29,7 @@ fn main() {
     let b = os::arg(2, &mut word);
     let turns = turns_of(console::first(&word, b));
     if let Mode::None = mode {
-        console::tell(b"bench: report, clean or both, and a number\n");
+        console::tell(b"bench: report, report_by_number, clean or both, and a number\n");
         return;
     }
     run(
@@ -39,7 +41,7 @@ fn main() {
     );
 }
 
-// By the word's first letter.
+// By the word's first letter, and of the reports by the word's length.
 fn mode_of(word: &[u8], n: usize) -> Mode {
     if n == 0 {
         return Mode::None;
@@ -48,11 +50,18 @@ fn mode_of(word: &[u8], n: usize) -> Mode {
         return Mode::None;
     }
     match word[0] {
-        b'r' => Mode::Report,
+        b'r' => report_mode(n),
         b'c' => Mode::Clean,
         b'b' => Mode::Both,
         _ => Mode::None,
     }
+}
+
+fn report_mode(n: usize) -> Mode {
+    if n == 6 {
+        return Mode::Report;
+    }
+    Mode::ByNumber
 }
 
 // The number that the word spells, or 0.
@@ -83,6 +92,9 @@ fn turn(text: &[u8], room: &mut [u8], clean_room: &mut [u8], mode: Mode) {
         Mode::Report => {
             calls::report(text, room);
         }
+        Mode::ByNumber => {
+            calls::report_by_number(text, room);
+        }
         Mode::Clean => {
             calls::clean(text, room);
         }
@@ -97,6 +109,7 @@ fn turn(text: &[u8], room: &mut [u8], clean_room: &mut [u8], mode: Mode) {
 fn show(text: &[u8], room: &mut [u8], clean_room: &mut [u8], mode: Mode) {
     match mode {
         Mode::Report => show_report(text, room),
+        Mode::ByNumber => show_by_number(text, room),
         Mode::Clean => show_clean(text, room),
         Mode::Both => show_both(text, room, clean_room),
         Mode::None => {}
@@ -105,6 +118,12 @@ fn show(text: &[u8], room: &mut [u8], clean_room: &mut [u8], mode: Mode) {
 
 fn show_report(text: &[u8], room: &mut [u8]) {
     let a = calls::report(text, room);
+    let n = calls::put_answer(a, room);
+    console::print(console::first(room, n));
+}
+
+fn show_by_number(text: &[u8], room: &mut [u8]) {
+    let a = calls::report_by_number(text, room);
     let n = calls::put_answer(a, room);
     console::print(console::first(room, n));
 }

@@ -547,12 +547,13 @@ fn lay_both(
     requires { ⌜ (min 64 (length (now sets)) ≤ length (now out)) × Outs (now moves) (now guards) (now sets) (min (min (min (c .moves) 256) (length (now moves))) (length (now guards))) (now out) ⌝ }
     ensures { λ a. ⌜ ((r : Sheet) → Laid (now (text .entry)) c (tables (now (names .entry)) valid (now (moves .entry)) (now (guards .entry)) (now (stops .entry)) (now («stop_guards» .entry))) (now (sets .entry)) depth r → BothFilling r (now (room .entry)) (now (room .exit)) (now (second .entry)) (now (second .exit)) a) ⌝ }
 {
+    let order = Order::Plainest;
     let mut rows = [0u8; 256];
     let kept = order_moves(text, c.moves, moves, guards, sets, &mut rows);
     let long = clean_length(text, c, names, valid, moves, guards, sets, out, &rows, kept);
     if counts::at_most(second.len(), MOST_BYTES) < long {
         let line = longer(
-            Order::Plainest,
+            order,
             room,
             c,
             depth,
@@ -566,7 +567,7 @@ fn lay_both(
         return refuse(11, line);
     }
     if !report_fits(
-        Order::Plainest,
+        order,
         room,
         c,
         depth,
@@ -593,7 +594,7 @@ fn lay_both(
         kept,
     );
     let n = put_report(
-        Order::Plainest,
+        order,
         room,
         c,
         depth,

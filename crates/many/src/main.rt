@@ -1,8 +1,8 @@
 // Answers for many sheets in one run, so that thousands can be held against the walker in seconds.
 // Standard input has one frame after another: a length in decimal digits, byte 10, and that many
-// bytes, a sheet. For each sheet three frames are written: what the program `report` writes for it, what
-// `clean` writes, and what the call with two rooms gave. That is the line of the refusal; or `done`, the
-// report's length and the clean sheet's, tab-parted, byte 10, and then both texts. Nothing is judged here.
+// bytes, a sheet. For each sheet four frames are written: what the programs `report`, `report_by_number` and
+// `clean` write for it, and what the call with two rooms gave. That is the line of the refusal; or `done`,
+// the report's length and the clean sheet's, tab-parted, byte 10, and then both texts. Nothing is judged here.
 use calls::Answers;
 use console::Line;
 use fields::Number;
@@ -38,7 +38,7 @@ fn answer_all(buf: &mut [u8], room: &mut [u8], clean_room: &mut [u8]) {
     }
 }
 
-// Reads one frame and writes its three answers; answers whether there was one and all was written.
+// Reads one frame and writes its four answers; answers whether there was one and all was written.
 fn answer_next(buf: &mut [u8], room: &mut [u8], clean_room: &mut [u8]) -> bool {
     let head = read_head();
     match head {
@@ -64,17 +64,34 @@ fn tell_broken() -> bool {
 }
 
 fn answer(text: &[u8], room: &mut [u8], clean_room: &mut [u8]) -> bool {
-    let a = calls::report(text, room);
-    let n = calls::put_answer(a, room);
-    if !print_frame(room, n) {
+    if !answer_report(text, room) {
         return false;
     }
-    let b = calls::clean(text, room);
-    let m = calls::put_answer(b, room);
-    if !print_frame(room, m) {
+    if !answer_by_number(text, room) {
+        return false;
+    }
+    if !answer_clean(text, room) {
         return false;
     }
     answer_both(text, room, clean_room)
+}
+
+fn answer_report(text: &[u8], room: &mut [u8]) -> bool {
+    let a = calls::report(text, room);
+    let n = calls::put_answer(a, room);
+    print_frame(room, n)
+}
+
+fn answer_by_number(text: &[u8], room: &mut [u8]) -> bool {
+    let a = calls::report_by_number(text, room);
+    let n = calls::put_answer(a, room);
+    print_frame(room, n)
+}
+
+fn answer_clean(text: &[u8], room: &mut [u8]) -> bool {
+    let a = calls::clean(text, room);
+    let n = calls::put_answer(a, room);
+    print_frame(room, n)
 }
 
 // The number in the next line. Of a longer line the first bytes are judged, and the last one may lack its end.

@@ -119,13 +119,13 @@ fn plainest_in(w: usize, x: u64, few: usize) -> Found
         return Found::Nothing;
     }
     let common = features_of_word(w);
-    let mut k = 0;
-    while common + k < few {
-        let layer = x & with_features(k);
+    let mut more = 0;
+    while common + more < few {
+        let layer = x & with_features(more);
         if layer != 0 {
             return Found::At(w * 64 + lowest(layer));
         }
-        k += 1;
+        more += 1;
     }
     Found::Nothing
 }
@@ -161,12 +161,12 @@ fn lowest(x: u64) -> usize
     requires { ⌜ (x ≡ 0 → ⊥) ⌝ }
     ensures { λ r. ⌜ (r < 64) × (bit x r ≡ 1) × ((k : ℕ) → k < r → bit x k ≡ 0) ⌝ }
 {
-    let mut k = 0;
-    while k < 64 {
-        if (x >> k) % 2 == 1 {
-            return k;
+    let mut place = 0;
+    while place < 64 {
+        if (x >> place) % 2 == 1 {
+            return place;
         }
-        k += 1;
+        place += 1;
     }
     0
 }

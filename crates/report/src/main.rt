@@ -1,7 +1,9 @@
-// Reads one sheet from standard input and writes its report, or the refusal, to standard output.
+// Reads one sheet from standard input and writes its report, or the refusal, to standard output. Each product
+// in it is the plainest.
 use console::Input;
 ghost use Prim.Native.Nat.{_≤_};
 ghost use lib.ListN.{length, take};
+ghost use Rattle.products.specs.declared.Order.{Order};
 ghost use Rattle.calls.specs.Promise.{ReportPromise};
 ghost use Rattle.calls.specs.Shown.{Printed};
 
@@ -19,7 +21,7 @@ fn main() {
 // Lays the report into the room, or the line of the refusal; answers how many bytes that is.
 fn answer(sheet: &[u8], room: &mut [u8]) -> usize
     requires { ⌜ 54 ≤ length (now room) ⌝ }
-    ensures { λ n. ⌜ Printed (ReportPromise (now (sheet .entry))) (now (room .entry)) (take n (now (room .exit))) ⌝ }
+    ensures { λ n. ⌜ Printed (ReportPromise Order.Plainest (now (sheet .entry))) (now (room .entry)) (take n (now (room .exit))) ⌝ }
 {
     let a = calls::report(sheet, room);
     calls::put_answer(a, room)

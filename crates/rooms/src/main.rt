@@ -1,7 +1,7 @@
-// Lays the report of the sheet on standard input, and then its clean form, into rooms of every size
-// from 0 to eight bytes more than it needs, each with marked bytes around it, and writes for each room
-// a line with its size and the answer, and then the room with the marks around it. Then both texts at
-// once, in pairs of rooms. Nothing is judged here: the walker says what should be written.
+// Lays the report of the sheet on standard input, then the one by number and then its clean form into rooms
+// of every size from 0 to eight bytes more than it needs, each with marked bytes around it, and writes for
+// each room a line with its size and the answer, and then the room with the marks around it. Then report and
+// clean form at once, in pairs of rooms. Nothing is judged here: the walker says what should be written.
 mod pairs;
 
 use calls::Answer;
@@ -26,6 +26,7 @@ const LINE_ROOM: usize = 64;
 // The text that is asked for.
 enum Asked {
     Report,
+    ByNumber,
     Clean,
 }
 
@@ -43,6 +44,9 @@ fn main() {
 // Every room in turn, as long as all can be written.
 fn show_all(text: &[u8], area: &mut [u8], clean_area: &mut [u8]) {
     if !rooms(text, area, Asked::Report) {
+        return;
+    }
+    if !rooms(text, area, Asked::ByNumber) {
         return;
     }
     if !rooms(text, clean_area, Asked::Clean) {
@@ -76,6 +80,7 @@ fn sizes(text: &[u8], area: &mut [u8], asked: Asked) -> usize {
 fn lay(text: &[u8], room: &mut [u8], asked: Asked) -> Answer {
     match asked {
         Asked::Report => calls::report(text, room),
+        Asked::ByNumber => calls::report_by_number(text, room),
         Asked::Clean => calls::clean(text, room),
     }
 }

@@ -12,10 +12,10 @@ use Rattle.members.proofs.lowest.Statement.{statement}
 use Rattle.members.proofs.lowest.Tie as tie
 
 abbrev Inv-loop : tie.InvT-loop
-Inv-loop x k₀ k = (k ≤ 64) × ((j : ℕ) → j < k → bit x j ≡ 0)
+Inv-loop x place₀ place = (place ≤ 64) × ((j : ℕ) → j < place → bit x j ≡ 0)
 
 abbrev μ-loop : tie.MeasureT-loop
-μ-loop x k₀ k = 64 - k
+μ-loop x place₀ place = 64 - place
 
 loop-holds : tie.Need-loop-holds Inv-loop μ-loop
 loop-holds c = (search needs, λ j l. absurd (omega arith))
