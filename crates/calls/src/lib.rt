@@ -552,18 +552,7 @@ fn lay_both(
     let kept = order_moves(text, c.moves, moves, guards, sets, &mut rows);
     let long = clean_length(text, c, names, valid, moves, guards, sets, out, &rows, kept);
     if counts::at_most(second.len(), MOST_BYTES) < long {
-        let line = longer(
-            order,
-            room,
-            c,
-            depth,
-            sets,
-            out,
-            moves,
-            guards,
-            stops,
-            stop_guards,
-        );
+        let line = longer(room, c, depth, sets, out, moves, guards, stops, stop_guards);
         return refuse(11, line);
     }
     if !report_fits(
@@ -646,7 +635,6 @@ fn report_fits(
 // Of which room 11 speaks where the clean sheet is too long: of the report's, 1, if that is too long as
 // well. The room stays as it is.
 fn longer(
-    order: Order,
     room: &mut [u8],
     c: Counts,
     depth: usize,
@@ -658,11 +646,11 @@ fn longer(
     stop_guards: &[[u64; 16]],
 ) -> usize
     requires { ⌜ (min 64 (length (now sets)) ≤ length (now out)) × Outs (now moves) (now guards) (now sets) (min (min (min (c .moves) 256) (length (now moves))) (length (now guards))) (now out) ⌝ }
-    ensures { λ line. ⌜ (now (room .exit) ≡ now (room .entry)) × ((s : List ℕ) (n : List (List ℕ)) (v : List ℕ) (r : Sheet) → Laid s c (tables n v (now (moves .entry)) (now (guards .entry)) (now (stops .entry)) (now («stop_guards» .entry))) (now (sets .entry)) depth r → Longer (IsReport (Before order) r) (length (now (room .entry))) line) ⌝ }
+    ensures { λ line. ⌜ (now (room .exit) ≡ now (room .entry)) × ((s : List ℕ) (n : List (List ℕ)) (v : List ℕ) (r : Sheet) → Laid s c (tables n v (now (moves .entry)) (now (guards .entry)) (now (stops .entry)) (now («stop_guards» .entry))) (now (sets .entry)) depth r → Longer (IsReport (Before Order.Plainest) r) (length (now (room .entry))) line) ⌝ }
 {
     let mut no_room = [0u8; 0];
     let n = put_report(
-        order,
+        Order::Plainest,
         &mut no_room,
         c,
         depth,

@@ -4,6 +4,7 @@ pub mod Refusals
 pub mod Box
 pub mod Decided
 pub mod Exists
+pub mod Alike
 pub mod Facts
 pub mod Dish
 pub mod Folded

@@ -15,14 +15,17 @@ use Rattle.products.specs.declared.Order.the-variants.{Plainest, ByNumber}
 use Rattle.products.specs.Sets.{Least}
 use Rattle.products.specs.Orders.{Before}
 use Rattle.guards.specs.Guard.{disj, feature, neg, chain, one as single}
-use Rattle.sheet.specs.Sheet.{Move, Sheet, names, isValid}
+use Rattle.sheet.specs.Sheet.{Move, Stop, Sheet, names, isValid}
 use Rattle.sheet.specs.Reading.{kept, refused, readSheet}
 use Rattle.sheet.specs.Places.{LineOf, FieldThere, ByteThere}
 use Rattle.sheet.specs.Accepted.{Accepted}
 use Rattle.family.specs.Ways.{Reached, Depth}
+use Rattle.verdicts.specs.declared.Verdict.{Verdict}
 use Rattle.verdicts.specs.declared.Verdict.the-variants.{Must}
-use Rattle.verdicts.specs.Verdicts.{MadeIn, JudgedAs}
-use Rattle.reporting.specs.Report.{IsReport}
+use Rattle.verdicts.specs.declared.StateVerdict.{StateVerdict}
+use Rattle.verdicts.specs.declared.StopVerdict.{StopVerdict}
+use Rattle.verdicts.specs.Verdicts.{MadeIn, JudgedAs, StateAs, StopAs}
+use Rattle.reporting.specs.Report.{word, stateWord, stopWord, IsReport}
 use Rattle.normal.specs.Behaviour.{Same}
 use Rattle.normal.specs.Clean.{IsClean}
 use Rattle.normal.specs.Faults.{Faultless}
@@ -167,6 +170,14 @@ abbrev pub Verdicts : Type 0
 Verdicts =
     (o : Order) (s room x : List ℕ) (n : ℕ) → ReportPromise o s room x (one.Done n)
     → (r : Sheet) × (readSheet s ≡ kept r) × Accepted r × IsReport (Before o) r (take n x)
+
+-- order-changes-no-verdict: the order changes the products that are named, and no verdict. Counts and depth do not speak of it.
+abbrev pub OrderChangesNoVerdict : Type 0
+OrderChangesNoVerdict =
+    (o n : Order) (r : Sheet)
+    → ((m : Move) (v w : Verdict) → JudgedAs (Before o) r m v → JudgedAs (Before n) r m w → word v ≡ word w)
+    × ((q : ℕ) (v w : StateVerdict) → StateAs (Before o) r q v → StateAs (Before n) r q w → stateWord v ≡ stateWord w)
+    × ((d : Stop) (v w : StopVerdict) → StopAs (Before o) r d v → StopAs (Before n) r d w → stopWord v ≡ stopWord w)
 
 -- spelling-isnt-meaning: "Spelling isn't meaning", for guards are functions: two sheets that differ in nothing but how their guards are spelled have the same
 -- report and the same clean sheet, and behave alike.
