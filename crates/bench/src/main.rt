@@ -58,10 +58,10 @@ fn mode_of(word: &[u8], n: usize) -> Mode {
 }
 
 fn report_mode(n: usize) -> Mode {
-    if n == 6 {
-        return Mode::Report;
+    if n == 16 {
+        return Mode::ByNumber;
     }
-    Mode::ByNumber
+    Mode::Report
 }
 
 // The number that the word spells, or 0.

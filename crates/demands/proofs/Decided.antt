@@ -18,7 +18,6 @@ use Rattle.family.specs.Ways.{Valid, Reached, Way, none, more, Fewest, Depth}
 use Rattle.family.proofs.Steps.{reached-way, way-reached}
 use Rattle.family.proofs.Meaning.{reached-state, product-small, fewest-small}
 use Rattle.verdicts.specs.Verdicts.{Makes, MadeIn, MissedIn, HoldsInEvery, FailsInSome, LeadsOut, Stuck, ReachedIn, Declares, UntrueIn, Named}
-use Rattle.ordering.proofs.Laws.{compared}
 use Rattle.normal.specs.Clean.{Stays, Leaves}
 use Rattle.normal.proofs.Faultless.{line-goes}
 

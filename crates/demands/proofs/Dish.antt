@@ -78,9 +78,6 @@ below-four P a b c d (suc (suc (suc (suc p)))) l = absurd (omega arith)
 valid-each : (P : ℕ → Type 0) → P 1 → P 2 → P 3 → (p : ℕ) → Valid dish p → P p
 valid-each P b c d p v = below-four (λ q. Valid dish q → P q) (λ w. absurd (invalid-zero w)) (λ w. b) (λ w. c) (λ w. d) p (valid-parts v .0) v
 
-valid-positive : (p : ℕ) → Valid dish p → 1 ≤ p
-valid-positive = valid-each (λ p. 1 ≤ p) (omega arith) (omega arith) (omega arith)
-
 -- ---- its ways
 
 level-never : (p : ℕ) → holds boatAndNot p ≡ true → ⊥

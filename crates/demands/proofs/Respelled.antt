@@ -242,7 +242,7 @@ module _ {r q : Sheet} (e : Respelled r q) {d c : Stop} (a : StopAlike r d c) wh
   stop-too R Idle n = none-as declares-agree n
   stop-too R True (i, n) = (some-as declares-agree i, none-as untrue-agree n)
 
--- ---- the report: the same rows, whatever the order by which the smallest product is found
+-- ---- the report: the same rows, whatever the order by which the first product is found
 
 module _ {R : ℕ → ℕ → Type 0} {r q : Sheet} (e : Respelled r q) where
   move-rows-too : {ms ks : List Move} {x : List ℕ} → Paired (MoveAlike r) ms ks → MoveRows R r ms x → MoveRows R q ks x

@@ -10,6 +10,7 @@ use Prim.Native.Nat.{ℕ, _+_, _≤_}
 use lib.ListN.{length, take}
 use Rattle.refusals.specs.declared.Refusal.{Refusal}
 use Rattle.refusals.specs.Refusal.{refusal}
+use Rattle.products.specs.declared.Found.the-variants.{Nothing}
 use Rattle.products.specs.declared.Order.{Order}
 use Rattle.products.specs.declared.Order.the-variants.{Plainest, ByNumber}
 use Rattle.products.specs.Sets.{Least}
@@ -25,7 +26,7 @@ use Rattle.verdicts.specs.declared.Verdict.the-variants.{Must}
 use Rattle.verdicts.specs.declared.StateVerdict.{StateVerdict}
 use Rattle.verdicts.specs.declared.StopVerdict.{StopVerdict}
 use Rattle.verdicts.specs.Verdicts.{MadeIn, JudgedAs, StateAs, StopAs}
-use Rattle.reporting.specs.Report.{word, stateWord, stopWord, IsReport}
+use Rattle.reporting.specs.Report.{word, missedOf, stateWord, stopWord, IsReport}
 use Rattle.normal.specs.Behaviour.{Same}
 use Rattle.normal.specs.Clean.{IsClean}
 use Rattle.normal.specs.Faults.{Faultless}
@@ -119,7 +120,8 @@ ElevenGiven =
     × ((a : Answer) → CleanPromise s [] x a → a ≡ one.Refused (refusal 11 0 0))
     × ((a : Answers) → BothPromise s [] x clean u a → a ≡ two.Refused (refusal 11 1 0))
 
--- room-enough: no report has more than 9,545 bytes; in a room of so many neither call refuses anything but what the table refuses.
+-- room-enough: no report has more than 9,545 bytes; in a room of so many neither `report` nor `report_by_number` refuses anything but what the
+-- table refuses.
 abbrev pub RoomEnough : Type 0
 RoomEnough = (o : Order) (s room x : List ℕ) (q : Refusal) → 9545 ≤ length room → ReportPromise o s room x (one.Refused q) → readSheet s ≡ refused q
 
@@ -130,8 +132,9 @@ Cut P = (s room x : List ℕ) (a : Answer) → P (take 65537 s) room x a ↔ P s
 abbrev pub BothCut : Type 0
 BothCut = (s room x clean u : List ℕ) (a : Answers) → BothPromise (take 65537 s) room x clean u a ↔ BothPromise s room x clean u a
 
--- both-as-single: "Both texts equal those of the single calls, the report in the default order", with the same lengths and rooms, where both single calls are done. Where
--- one of them gives 11 to an accepted sheet, this one gives 11 with line 1 for the report, else with line 2 for the clean sheet, and "neither room changes".
+-- both-as-single: "Both texts equal those of the single calls, the report in the default order", with the same lengths and rooms, where both single calls are
+-- done. Where one of them gives 11 to an accepted sheet, this one gives 11 with line 1 for the report, else with line 2 for the clean sheet, and "neither room
+-- changes".
 abbrev pub BothAsSingle : Type 0
 BothAsSingle =
     (s room x y clean u v : List ℕ) (c : Answers) → BothPromise s room y clean v c
@@ -171,11 +174,12 @@ Verdicts =
     (o : Order) (s room x : List ℕ) (n : ℕ) → ReportPromise o s room x (one.Done n)
     → (r : Sheet) × (readSheet s ≡ kept r) × Accepted r × IsReport (Before o) r (take n x)
 
--- order-changes-no-verdict: the order changes the products that are named, and no verdict. Counts and depth do not speak of it.
+-- order-changes-no-verdict: the order changes which products are named, and no verdict, nor whether a product is named: of a move line missed, the one
+-- field of which the verdict does not tell that. Counts and depth do not speak of the order.
 abbrev pub OrderChangesNoVerdict : Type 0
 OrderChangesNoVerdict =
     (o n : Order) (r : Sheet)
-    → ((m : Move) (v w : Verdict) → JudgedAs (Before o) r m v → JudgedAs (Before n) r m w → word v ≡ word w)
+    → ((m : Move) (v w : Verdict) → JudgedAs (Before o) r m v → JudgedAs (Before n) r m w → (word v ≡ word w) × (missedOf v ≡ Nothing → missedOf w ≡ Nothing))
     × ((q : ℕ) (v w : StateVerdict) → StateAs (Before o) r q v → StateAs (Before n) r q w → stateWord v ≡ stateWord w)
     × ((d : Stop) (v w : StopVerdict) → StopAs (Before o) r d v → StopAs (Before n) r d w → stopWord v ≡ stopWord w)
 

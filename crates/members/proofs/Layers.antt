@@ -1,10 +1,9 @@
 -- The search for the plainest product: the words of a layer, the search through the layers of one word, and what is known of the best product after
 -- each word. Assumes nothing.
 use mathlib.Core.Path.{_≡_, refl, sym, ap, _∙_}
-use mathlib.Core.Bool.{Bool}
 use mathlib.Core.List.{List}
-use mathlib.Core.Logic.{_⊎_, inl, inr, ⊎-elim}
-use Prim.Native.Nat.{ℕ, zero, suc, _+_, _*_, _/_, _%_, _^_, _<_, _≤_}
+use mathlib.Core.Logic.{_⊎_, inl, inr}
+use Prim.Native.Nat.{ℕ, _+_, _*_, _/_, _%_, _^_, _<_, _≤_}
 use native.Mathlib.Decide.{decLt}
 use native.Mathlib.Omega.{arith}
 use borrow.Author.Tests.{eq-eqb, ne-eqb, eqb-true}
@@ -74,16 +73,16 @@ module _ (x m k : ℕ) (on : (j : ℕ) → j < 64 → bit m j ≡ oneIf (eqb (bi
       omega arith
 
   -- a layer that has none
-  pub layer-none : From x k → bitAnd x m ≡ 0 → From x (k + 1)
+  pub layer-none : From x k → ((j : ℕ) → j < 64 → bit (bitAnd x m) j ≡ 0) → From x (k + 1)
   layer-none h e = record { is = λ j l o. let z = h .is j l o in let ne = other j l o in omega arith }
     where
       other : (j : ℕ) → j < 64 → bit x j ≡ 1 → bits j 6 ≡ k → ⊥
-      other j l o s = let b = of-layer j l o s in omega (arith, zero-bit j, rw e at b)
+      other j l o s = omega (arith, of-layer j l o s, e j l)
 
-  -- the lowest of the first layer that has any
-  pub layer-least : (w : ℕ) {few c j : ℕ} → c ≡ bits w 4 → From x k → c + k < few
-      → (j < 64) × (bit (bitAnd x m) j ≡ 1) × ((i : ℕ) → i < j → bit (bitAnd x m) i ≡ 0) → Least Plainer (InWord w x few) (w * 64 + j)
-  layer-least w {few} {c} {j} common h l (lj, one, none) =
+  -- the lowest place of the first layer that has any
+  pub layer-least : (w : ℕ) {few c j : ℕ} → c ≡ bits w 4 → From x k → c + k < few → j < 64 → bit (bitAnd x m) j ≡ 1
+      → ((i : ℕ) → i < j → bit (bitAnd x m) i ≡ 0) → Least Plainer (InWord w x few) (w * 64 + j)
+  layer-least w {few} {c} {j} common h l lj one none =
       let place : (w * 64 + j) % 64 ≡ j = omega arith in
       record {
         is = record { word = omega arith; one = rw place (at .0); less = omega (arith, split, at .1, common, l) };
@@ -148,7 +147,9 @@ module _ {y : ℕ} {a b : List ℕ} {w best few : ℕ} (x : ℕ) (h : Best (Pick
       record {
         is = h .is;
         has-few = h .has-few;
-        first = λ q i l. split q i l (h .first q i) (λ z. absurd (found-none Plainer (InWord w x few) g n q z)) (λ k t. plainer-by (omega (arith, h .has-few, t)) (λ s. h .rest q i k));
+        first = λ q i l.
+            split q i l (h .first q i) (λ z. absurd (found-none Plainer (InWord w x few) g n q z))
+            (λ k t. plainer-by (omega (arith, h .has-few, t)) (λ s. h .rest q i k));
         rest = λ q i l. h .rest q i (omega arith);
       }
 
@@ -159,7 +160,9 @@ module _ {y : ℕ} {a b : List ℕ} {w best few : ℕ} (x : ℕ) (h : Best (Pick
       record {
         is = picked-in p (z .is) lw;
         has-few = e;
-        first = λ q i l. split q i l (λ k. fewer (omega (arith, h .has-few, z .is .less, plainer-few (h .first q i k)))) (z .first q) (λ k t. fewer (omega (arith, z .is .less, t)));
+        first = λ q i l.
+            split q i l (λ k. fewer (omega (arith, h .has-few, z .is .less, plainer-few (h .first q i k)))) (z .first q)
+            (λ k t. fewer (omega (arith, z .is .less, t)));
         rest = λ q i l. omega (arith, z .is .word);
       }
 

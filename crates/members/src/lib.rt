@@ -1,8 +1,8 @@
-// What sets of products have: whether a set has a product, any, or all, and how many; of two sets the first in
-// an order that they share, or that the first set alone has, and whether there is one; whether they are the same.
+// What sets of products have: whether a set has a product, any, or all, and how many; of what two sets share, or
+// the first alone has, the product that comes first in an order, and whether there is one; whether two are the same.
 ghost use mathlib.Core.Path.{_≡_};
 ghost use mathlib.Core.Bool.{true, false, not};
-ghost use Prim.Native.Nat.{ℕ, _+_, _*_, _<_, _≤_};
+ghost use Prim.Native.Nat.{ℕ, _<_, _≤_};
 ghost use lib.Dec.{eqb};
 ghost use Rattle.products.specs.Sets.{bit, oneIf, In, Picked, InBoth, InOnly, Finds, Full, Lacks, countTo};
 ghost use Rattle.products.specs.Orders.{bits, features, Plainer, Before};
@@ -53,21 +53,21 @@ pub fn count(s: [u64; 16]) -> usize
     n
 }
 
-// The first product in the order that a and b both have.
+// Of the products that a and b both have, the first in the order.
 pub fn least_both(order: Order, a: &[u64; 16], b: &[u64; 16]) -> Found
     ensures { λ r. ⌜ Finds (Before order) (InBoth (now (a .entry)) (now (b .entry))) r ⌝ }
 {
     least(order, a, b, false)
 }
 
-// The first product in the order that a has and b has not.
+// Of the products that a has and b has not, the first in the order.
 pub fn least_without(order: Order, a: &[u64; 16], b: &[u64; 16]) -> Found
     ensures { λ r. ⌜ Finds (Before order) (InOnly (now (a .entry)) (now (b .entry))) r ⌝ }
 {
     least(order, a, b, true)
 }
 
-// The first product in the order that a has and b has, or has not if `out`.
+// Of the products that a has and b has, or has not if `out`, the first in the order.
 fn least(order: Order, a: &[u64; 16], b: &[u64; 16], out: bool) -> Found
     ensures { λ r. ⌜ Finds (Before order) (Picked (oneIf (not out)) (now (a .entry)) (now (b .entry))) r ⌝ }
 {
@@ -77,8 +77,8 @@ fn least(order: Order, a: &[u64; 16], b: &[u64; 16], out: bool) -> Found
     }
 }
 
-// The plainest product that a has and b has, or has not if `out`: that with the smallest number, or one behind
-// it with fewer features. Behind a product that has none or one there is nothing to look for.
+// Of the products that a has and b has, or has not if `out`, the plainest: that with the smallest number, or one
+// behind it with fewer features. Behind a product that has none or one there is nothing to look for.
 fn plainest(a: &[u64; 16], b: &[u64; 16], out: bool) -> Found
     ensures { λ r. ⌜ Finds Plainer (Picked (oneIf (not out)) (now (a .entry)) (now (b .entry))) r ⌝ }
 {
@@ -120,17 +120,25 @@ fn plainest_in(w: usize, x: u64, few: usize) -> Found
     }
     let common = features_of_word(w);
     let mut more = 0;
-    while common + more < few {
+    'search: loop {
+        if few <= common + more {
+            break 'search Found::Nothing;
+        }
         let layer = x & with_features(more);
         if layer != 0 {
-            return Found::At(w * 64 + lowest(layer));
+            let mut place = 0;
+            while place < 64 {
+                if (layer >> place) % 2 == 1 {
+                    break 'search Found::At(w * 64 + place);
+                }
+                place += 1;
+            }
         }
         more += 1;
     }
-    Found::Nothing
 }
 
-// How many features all products of word w have: one digit for each word.
+// How many of the last four features the products of word w have, all the same: one digit for each word.
 fn features_of_word(w: usize) -> usize
     requires { ⌜ w < 16 ⌝ }
     ensures { λ r. ⌜ r ≡ bits w 4 ⌝ }
@@ -156,22 +164,8 @@ fn with_features(n: usize) -> u64
     }
 }
 
-// The place of the lowest bit of x.
-fn lowest(x: u64) -> usize
-    requires { ⌜ (x ≡ 0 → ⊥) ⌝ }
-    ensures { λ r. ⌜ (r < 64) × (bit x r ≡ 1) × ((k : ℕ) → k < r → bit x k ≡ 0) ⌝ }
-{
-    let mut place = 0;
-    while place < 64 {
-        if (x >> place) % 2 == 1 {
-            return place;
-        }
-        place += 1;
-    }
-    0
-}
-
-// The smallest product that a has and b has, or has not if `out`. Words that hold none are passed over whole.
+// Of the products that a has and b has, or has not if `out`, the one with the smallest number. Words that hold
+// none are passed over whole.
 fn search(a: &[u64; 16], b: &[u64; 16], out: bool) -> Found
     ensures { λ r. ⌜ Finds _≤_ (Picked (oneIf (not out)) (now (a .entry)) (now (b .entry))) r ⌝ }
 {

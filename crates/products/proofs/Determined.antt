@@ -7,15 +7,13 @@ use Rattle.products.specs.Sets.{has, Least, Finds, Words}
 use Rattle.products.specs.declared.Found.{Found}
 use Rattle.products.specs.declared.Found.the-variants.{At, Nothing}
 use Rattle.products.proofs.Laws.{same-members}
+use Rattle.products.proofs.Ordered.{Ordered}
 
 -- of every function that answers a set: both, either, without, choice, lay_feature, all
 pub members-determine : (f : ℕ → ℕ) (r r′ : List ℕ) → Words r → Words r′ → ((p : ℕ) → p < 1024 → has r p ≡ f p) → ((p : ℕ) → p < 1024 → has r′ p ≡ f p) → r ≡ r′
 members-determine f r r′ w w′ h h′ = same-members w w′ (λ p lp. h p lp ∙ sym (h′ p lp))
 
 -- of a search for the first product with a property P, in an order in which no two products stand before each other
-abbrev pub Ordered : (ℕ → ℕ → Type 0) → Type 0
-Ordered R = (p q : ℕ) → R p q → R q p → p ≡ q
-
 module _ {R : ℕ → ℕ → Type 0} (o : Ordered R) where
   pub least-determined : {P : ℕ → Type 0} {p q : ℕ} → Least R P p → Least R P q → p ≡ q
   least-determined {p = p} {q = q} h k = o p q (h .first q (k .is)) (k .first p (h .is))

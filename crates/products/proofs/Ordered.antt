@@ -1,6 +1,6 @@
 -- Laws of the orders: of each, that it is total, that no two products stand before each other, and that it goes on; and of the features that the order
 -- by features counts. Assumes nothing.
-use mathlib.Core.Path.{_≡_, refl, sym, ap, _∙_}
+use mathlib.Core.Path.{_≡_, sym, ap, _∙_}
 use mathlib.Core.Logic.{_⊎_, inl, inr, ⊎-elim}
 use Prim.Native.Nat.{ℕ, zero, suc, _+_, _*_, _/_, _%_, _^_, _<_, _≤_}
 use native.Mathlib.Nat.{eq-or-lt-of-le, div-div-eq-div-mul}
@@ -31,7 +31,7 @@ plainer-one (fewer a) (as-many e b) = omega arith
 plainer-one (as-many e a) (fewer b) = omega arith
 plainer-one (as-many e a) (as-many f b) = omega arith
 
-pub plainer-on : {p q s : ℕ} → Plainer p q → Plainer q s → Plainer p s
+plainer-on : {p q s : ℕ} → Plainer p q → Plainer q s → Plainer p s
 plainer-on (fewer a) (fewer b) = fewer (omega arith)
 plainer-on (fewer a) (as-many e b) = fewer (omega arith)
 plainer-on (as-many e a) (fewer b) = fewer (omega arith)
@@ -59,7 +59,10 @@ before-total Plainest p q = plainer-total p q
 before-total ByNumber p q = rising-total p q
 
 -- no two products stand before each other
-pub before-one : (o : Order) (p q : ℕ) → Before o p q → Before o q p → p ≡ q
+abbrev pub Ordered : (ℕ → ℕ → Type 0) → Type 0
+Ordered R = (p q : ℕ) → R p q → R q p → p ≡ q
+
+pub before-one : (o : Order) → Ordered (Before o)
 before-one Plainest p q a b = plainer-one a b
 before-one ByNumber p q a b = omega arith
 

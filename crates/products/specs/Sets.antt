@@ -1,4 +1,4 @@
--- Sets of products: which products a set has, how many, and which is the smallest. A set is sixteen words; how the words hold it is said
+-- Sets of products: which products a set has, how many, and which comes first in an order. A set is sixteen words; how the words hold it is said
 -- once, in `has`, and everything else speaks of members. Assumes nothing: these are definitions.
 use mathlib.Core.Path.{_≡_}
 use mathlib.Core.Bool.{Bool, true, false}

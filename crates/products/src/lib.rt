@@ -2,7 +2,7 @@
 // speaks of all 1,024 products of ten features; `all` gives those of fewer. Nothing here knows of
 // guards, sheets or names.
 ghost use mathlib.Core.Path.{_≡_};
-ghost use Prim.Native.Nat.{ℕ, _+_, _-_, _*_, _<_, _≤_, _^_, min, max};
+ghost use Prim.Native.Nat.{ℕ, _-_, _<_, _^_, min, max};
 ghost use lib.Dec.{ltb};
 ghost use Rattle.products.specs.Sets.{bit, has, oneIf};
 

@@ -26,16 +26,32 @@ features-of-requires : tie.Need-features-of-requires Inv-loop μ-loop
 features-of-requires c κs = found-at _ _ (c .before .before .before .search .ensures) (c .before .smallest .given .1) .is .first .small
 
 loop-holds : tie.Need-loop-holds Inv-loop μ-loop
-loop-holds c = let h = found-at _ _ (c .before .before .before .before .search .ensures) (c .before .before .smallest .given .1) in (omega (arith, h .is .first .small), best-smallest h (c .features-of .ensures))
+loop-holds c =
+    let h = found-at _ _ (c .before .before .before .before .search .ensures) (c .before .before .smallest .given .1) in
+    (omega (arith, h .is .first .small), best-smallest h (c .features-of .ensures))
 
 plainest-in-requires : tie.Need-plainest-in-requires Inv-loop μ-loop
-plainest-in-requires c κs = let h = c .before .before .before .before .before .loop .inv .1 in (c .before .before .before .before .loop-test .taken, omega (arith, h .has-few, bits-le (c .before .before .before .before .before .loop .best) 10))
+plainest-in-requires c κs =
+    let l = c .before .before .before .before .before .loop in
+    (c .before .before .before .before .loop-test .taken, omega (arith, l .inv .1 .has-few, bits-le (l .best) 10))
 
 features-of-requires-2 : tie.Need-features-of-requires-2 Inv-loop μ-loop
-features-of-requires-2 c κs = let h = found-at _ _ (c .before .before .before .plainest-in .ensures) (c .before .plainer .given .1) in omega (arith, c .before .before .before .before .before .before .before .before .loop-test .taken, h .is .word)
+features-of-requires-2 c κs =
+    let h = found-at _ _ (c .before .before .before .plainest-in .ensures) (c .before .plainer .given .1) in
+    omega (arith, c .before .before .before .before .before .before .before .before .loop-test .taken, h .is .word)
 
 loop-again : tie.Need-loop-again Inv-loop μ-loop
-loop-again c = (omega arith, ⊎-elim (λ x. rw (x .4, x .5) (best-changes _ (c .before .before .before .before .before .before .before .loop .inv .1) (c .before .before .picked .ensures) (c .before .plainest-in .ensures) (x .1 .given .1) (c .before .before .before .before .before .before .loop-test .taken) (x .3 .ensures))) (λ x. rw (x .2, x .3) (best-stays _ (c .before .before .before .before .before .before .before .loop .inv .1) (c .before .before .picked .ensures) (c .before .plainest-in .ensures) (x .1 .given .1))) (c .match2 .came))
+loop-again c =
+    let best = c .before .before .before .before .before .before .before .loop .inv .1 in
+    let on = c .before .before .picked .ensures in
+    let found = c .before .plainest-in .ensures in
+    let inside = c .before .before .before .before .before .before .loop-test .taken in (
+      omega arith,
+      ⊎-elim
+          (λ way. rw (way .4, way .5) (best-changes _ best on found (way .1 .given .1) inside (way .3 .ensures)))
+          (λ way. rw (way .2, way .3) (best-stays _ best on found (way .1 .given .1)))
+          (c .match2 .came),
+    )
 
 returns-2 : tie.Need-returns-2 Inv-loop μ-loop
 returns-2 c = best-is (c .before .before .loop .inv .1) (inr (ltb-false _ _ (c .if1 .left)))
