@@ -1,14 +1,15 @@
 -- The search for the plainest product: the words of a layer, the search through the layers of one word, and what is known of the best product after
 -- each word. Assumes nothing.
 use mathlib.Core.Path.{_≡_, refl, sym, ap, _∙_}
+use mathlib.Core.Bool.{Bool, true, false, _||_}
 use mathlib.Core.List.{List}
 use mathlib.Core.Logic.{_⊎_, inl, inr}
 use Prim.Native.Nat.{ℕ, _+_, _*_, _/_, _%_, _^_, _<_, _≤_}
 use native.Mathlib.Decide.{decLt}
 use native.Mathlib.Omega.{arith}
-use borrow.Author.Tests.{eq-eqb, ne-eqb, eqb-true}
+use borrow.Author.Tests.{eq-eqb, ne-eqb, eqb-true, ltb-true, leb-true}
 use lib.Bits.{bitAnd}
-use lib.Dec.{T, eqb, eqb→eq}
+use lib.Dec.{T, eqb, ltb, leb, eqb→eq}
 use lib.ListN.{getD}
 use Rattle.products.specs.declared.Found.{Found}
 use Rattle.products.specs.declared.Found.the-variants.{At, Nothing}
@@ -34,6 +35,15 @@ features-past {n} l k lk = zero-bit k ∙ sym (ap oneIf (ne-eqb (bits k 6) n (λ
 -- a digit for each word
 pub word-features : (x w : ℕ) → T (passes (λ w. eqb (x / 2 ^ (4 * w) % 16) (bits w 4)) 16) → w < 16 → x / 2 ^ (4 * w) % 16 ≡ bits w 4
 word-features x w test l = eqb→eq (x / 2 ^ (4 * w) % 16) (bits w 4) (passes-at (λ w. eqb (x / 2 ^ (4 * w) % 16) (bits w 4)) 16 test w l)
+
+-- words from `end` on have m features or more in their numbers, by a computed test
+pub words-have : (m end : ℕ) {few : ℕ} → T (passes (λ w. ltb w end || leb m (bits w 4)) 16) → few ≡ m → (w : ℕ) → w < 16 → end ≤ w → few ≤ bits w 4
+words-have m end {few} test e w l past = told (ltb w end) refl (leb m (bits w 4)) refl (passes-at (λ w. ltb w end || leb m (bits w 4)) 16 test w l)
+  where
+    told : (a : Bool) → ltb w end ≡ a → (b : Bool) → leb m (bits w 4) ≡ b → T (a || b) → few ≤ bits w 4
+    told true p b q x = let z = ltb-true w end p in absurd (omega arith)
+    told false p true q x = let z = leb-true m (bits w 4) q in omega arith
+    told false p false q x = absurd x
 
 -- ---- the layers of a word
 
@@ -166,16 +176,22 @@ module _ {y : ℕ} {a b : List ℕ} {w best few : ℕ} (x : ℕ) (h : Best (Pick
         rest = λ q i l. omega (arith, z .is .word);
       }
 
--- no word is left, or the best has none or one
-pub best-is : {y : ℕ} {a b : List ℕ} {w best few : ℕ} → Best (Picked y a b) w best few → (16 ≤ w) ⊎ (few ≤ 1) → Least Plainer (Picked y a b) best
-best-is {y} {a} {b} {w} {best} {few} h l = record { is = h .is; first = λ q i. by q i l (decLt q (w * 64)) (decLt 0 (features q)) }
+-- the best has none or one, or the words that are left have as many in their numbers
+pub best-is : {y : ℕ} {a b : List ℕ} {w best few end : ℕ} → Best (Picked y a b) w best few → end ≤ w
+    → (few ≤ 1) ⊎ ((v : ℕ) → v < 16 → end ≤ v → few ≤ bits v 4) → Least Plainer (Picked y a b) best
+best-is {y} {a} {b} {w} {best} {few} {end} h past l = record { is = h .is; first = λ q i. by q i l (decLt q (w * 64)) (decLt 0 (features q)) }
   where
-    by : (q : ℕ) → Picked y a b q → (16 ≤ w) ⊎ (few ≤ 1) → Dec (q < w * 64) → Dec (0 < features q) → Plainer best q
+    by : (q : ℕ) → Picked y a b q → (few ≤ 1) ⊎ ((v : ℕ) → v < 16 → end ≤ v → few ≤ bits v 4) → Dec (q < w * 64) → Dec (0 < features q) → Plainer best q
     by q i t (yes z) d = h .first q i z
-    by q i (inl t) (no n) d = absurd (omega (arith, t, i .first .small))
-    by q i (inr t) (no n) (yes k) = plainer-by (omega (arith, h .has-few)) (λ e. h .rest q i (omega arith))
-    by q i (inr t) (no n) (no m) =
+    by q i (inl t) (no n) (yes k) = plainer-by (omega (arith, h .has-few)) (λ e. h .rest q i (omega arith))
+    by q i (inl t) (no n) (no m) =
         let z = features-none q (i .first .small) (omega arith) in
         let k = h .rest q i (omega arith) in
         let s : best ≡ q = omega arith in
         rw s (as-many refl (omega arith))
+    by q i (inr t) (no n) d =
+        let small = i .first .small in
+        let e : q / 64 * 64 + q % 64 ≡ q = omega arith in
+        let f = ap features (sym e) ∙ features-split (q / 64) (q % 64) (omega arith) in
+        let many = t (q / 64) (omega arith) (omega arith) in
+        plainer-by (omega (arith, h .has-few, f, many)) (λ z. h .rest q i (omega arith))

@@ -2,6 +2,7 @@
 // the first alone has, the product that comes first in an order, and whether there is one; whether two are the same.
 ghost use mathlib.Core.Path.{_≡_};
 ghost use mathlib.Core.Bool.{true, false, not};
+ghost use mathlib.Core.Logic.{_⊎_};
 ghost use Prim.Native.Nat.{ℕ, _<_, _≤_};
 ghost use lib.Dec.{eqb};
 ghost use Rattle.products.specs.Sets.{bit, oneIf, In, Picked, InBoth, InOnly, Finds, Full, Lacks, countTo};
@@ -71,14 +72,14 @@ pub fn least_without(order: Order, a: &[u64; 16], b: &[u64; 16]) -> Found
 fn least(order: Order, a: &[u64; 16], b: &[u64; 16], out: bool) -> Found
     ensures { λ r. ⌜ Finds (Before order) (Picked (oneIf (not out)) (now (a .entry)) (now (b .entry))) r ⌝ }
 {
-    match order {
-        Order::Plainest => plainest(a, b, out),
-        Order::ByNumber => search(a, b, out),
+    if let Order::ByNumber = order {
+        return search(a, b, out);
     }
+    plainest(a, b, out)
 }
 
 // Of the products that a has and b has, or has not if `out`, the plainest: that with the smallest number, or one
-// behind it with fewer features. Behind a product that has none or one there is nothing to look for.
+// behind it with fewer features.
 fn plainest(a: &[u64; 16], b: &[u64; 16], out: bool) -> Found
     ensures { λ r. ⌜ Finds Plainer (Picked (oneIf (not out)) (now (a .entry)) (now (b .entry))) r ⌝ }
 {
@@ -89,7 +90,7 @@ fn plainest(a: &[u64; 16], b: &[u64; 16], out: bool) -> Found
     let mut best = p;
     let mut few = features_of(p);
     let mut w = p / 64;
-    while w < 16 && 1 < few {
+    while w < words_below(few) {
         let x = picked(a[w], b[w], out);
         let plainer = plainest_in(w, x, few);
         if let Found::At(q) = plainer {
@@ -99,6 +100,21 @@ fn plainest(a: &[u64; 16], b: &[u64; 16], out: bool) -> Found
         w += 1;
     }
     Found::At(best)
+}
+
+// How many words from the first on may have a product with fewer than `few` features: the others have as many
+// in the word's own number. Behind a product that has none or one there is nothing to look for.
+fn words_below(few: usize) -> usize
+    ensures { λ r. ⌜ (r ≤ 16) × ((few ≤ 1) ⊎ ((w : ℕ) → w < 16 → r ≤ w → few ≤ bits w 4)) ⌝ }
+{
+    match few {
+        0 => 0,
+        1 => 0,
+        2 => 9,
+        3 => 13,
+        4 => 15,
+        _ => 16,
+    }
 }
 
 // How many features the product p has.

@@ -2,9 +2,8 @@
 -- Assumes nothing.
 use Prim.Native.Nat.{_≤_, _-_}
 use mathlib.Core.Bool.{not}
-use mathlib.Core.Logic.{inl, inr, ⊎-elim}
+use mathlib.Core.Logic.{⊎-elim}
 use native.Mathlib.Omega.{arith}
-use borrow.Author.Tests.{ltb-false}
 use borrow.Author.Needs.{needs}
 use Rattle.products.specs.Sets.{oneIf, Picked}
 use Rattle.products.proofs.Ordered.{bits-le}
@@ -31,33 +30,27 @@ loop-holds c =
     (omega (arith, h .is .first .small), best-smallest h (c .features-of .ensures))
 
 plainest-in-requires : tie.Need-plainest-in-requires Inv-loop μ-loop
-plainest-in-requires c κs =
-    let l = c .before .before .before .before .before .loop in
-    (c .before .before .before .before .loop-test .taken, omega (arith, l .inv .1 .has-few, bits-le (l .best) 10))
+plainest-in-requires c κs = (omega (arith, c .before .before .before .if1 .taken, c .before .before .before .before .words-below .ensures .0), omega (arith, c .before .before .before .before .before .loop .inv .1 .has-few, bits-le (c .before .before .before .before .before .loop .best) 10))
 
 features-of-requires-2 : tie.Need-features-of-requires-2 Inv-loop μ-loop
-features-of-requires-2 c κs =
-    let h = found-at _ _ (c .before .before .before .plainest-in .ensures) (c .before .plainer .given .1) in
-    omega (arith, c .before .before .before .before .before .before .before .before .loop-test .taken, h .is .word)
+features-of-requires-2 c κs = let h = found-at _ _ (c .before .before .before .plainest-in .ensures) (c .before .plainer .given .1) in omega (arith, c .before .before .before .before .before .before .before .if1 .taken, c .before .before .before .before .before .before .before .before .words-below .ensures .0, h .is .word)
 
 loop-again : tie.Need-loop-again Inv-loop μ-loop
 loop-again c =
     let best = c .before .before .before .before .before .before .before .loop .inv .1 in
     let on = c .before .before .picked .ensures in
     let found = c .before .plainest-in .ensures in
-    let inside = c .before .before .before .before .before .before .loop-test .taken in (
+    let inside = c .before .before .before .before .before .if1 .taken in
+    let few = c .before .before .before .before .before .before .words-below .ensures .0 in (
       omega arith,
       ⊎-elim
-          (λ way. rw (way .4, way .5) (best-changes _ best on found (way .1 .given .1) inside (way .3 .ensures)))
+          (λ way. rw (way .4, way .5) (best-changes _ best on found (way .1 .given .1) (omega (arith, inside, few)) (way .3 .ensures)))
           (λ way. rw (way .2, way .3) (best-stays _ best on found (way .1 .given .1)))
           (c .match2 .came),
     )
 
 returns-2 : tie.Need-returns-2 Inv-loop μ-loop
-returns-2 c = best-is (c .before .before .loop .inv .1) (inr (ltb-false _ _ (c .if1 .left)))
-
-returns-3 : tie.Need-returns-3 Inv-loop μ-loop
-returns-3 c = best-is (c .before .loop .inv .1) (inl (c .loop-test .left))
+returns-2 c = best-is (c .before .before .loop .inv .1) (c .if1 .left) (c .before .words-below .ensures .1)
 
 pub plainest-spec : {M : Type 1} → statement M
 plainest-spec =
@@ -71,6 +64,7 @@ plainest-spec =
     returns
     features-of-requires
     loop-holds
+    (λ c κs. search needs)
     (λ c. search needs)
     (λ c. search needs)
     (λ c. search needs)
@@ -83,5 +77,4 @@ plainest-spec =
     (λ c. search needs)
     (λ c. search needs)
     loop-again
-    returns-2
-    returns-3)
+    returns-2)

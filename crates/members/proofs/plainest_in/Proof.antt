@@ -20,10 +20,10 @@ abbrev μ-loop : tie.MeasureT-loop
 μ-loop w x few common more layer place₀ place = 64 - place
 
 abbrev Inv-search : tie.InvT-search
-Inv-search w x few common more₀ more = (more ≤ 10) × From x more
+Inv-search w x few common more₀ more = (more ≤ 11) × From x more
 
 abbrev μ-search : tie.MeasureT-search
-μ-search w x few common more₀ more = 10 - more
+μ-search w x few common more₀ more = 11 - more
 
 returns : tie.Need-returns Inv-loop μ-loop Inv-search μ-search
 returns c = word-none (c .if1 .taken)
@@ -50,7 +50,7 @@ search-again c =
     )
 
 returns-2 : tie.Need-returns-2 Inv-loop μ-loop Inv-search μ-search
-returns-2 c = layers-past (c .before .before .before .before .args .w) (c .before .before .features-of-word .ensures) (c .before .search .inv .1) (c .if2 .taken)
+returns-2 c = layers-past (c .before .before .before .before .args .w) (c .before .before .features-of-word .ensures) (c .before .search .inv .1) (omega (arith, c .if2 .taken))
 
 returns-3 : tie.Need-returns-3 Inv-loop μ-loop Inv-search μ-search
 returns-3 c =
