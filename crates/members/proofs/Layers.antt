@@ -54,11 +54,14 @@ pub record From (x k : ℕ) : Type 0 where
 pub from-none : (x k : ℕ) → k ≡ 0 → From x k
 from-none x k e = record { is = λ j l o. omega arith }
 
--- the features of a product in word w
-in-word : {w x n q : ℕ} → InWord w x n q → features q ≡ bits (q % 64) 6 + bits w 4
-in-word {w} {x} {n} {q} i =
-    let e : w * 64 + q % 64 ≡ q = omega (arith, i .word) in
+-- the features of a product are those of its place and of its word
+in-its-word : (q w : ℕ) → q / 64 ≡ w → features q ≡ bits (q % 64) 6 + bits w 4
+in-its-word q w h =
+    let e : w * 64 + q % 64 ≡ q = omega arith in
     ap features (sym e) ∙ features-split w (q % 64) (omega arith)
+
+in-word : {w x n q : ℕ} → InWord w x n q → features q ≡ bits (q % 64) 6 + bits w 4
+in-word {w} {x} {n} {q} i = in-its-word q w (i .word)
 
 -- a word that is 0
 pub word-none : {w x n : ℕ} → x ≡ 0 → (q : ℕ) → InWord w x n q → ⊥
@@ -191,7 +194,5 @@ best-is {y} {a} {b} {w} {best} {few} {end} h past l = record { is = h .is; first
         rw s (as-many refl (omega arith))
     by q i (inr t) (no n) d =
         let small = i .first .small in
-        let e : q / 64 * 64 + q % 64 ≡ q = omega arith in
-        let f = ap features (sym e) ∙ features-split (q / 64) (q % 64) (omega arith) in
         let many = t (q / 64) (omega arith) (omega arith) in
-        plainer-by (omega (arith, h .has-few, f, many)) (λ z. h .rest q i (omega arith))
+        plainer-by (omega (arith, h .has-few, in-its-word q (q / 64) refl, many)) (λ z. h .rest q i (omega arith))
