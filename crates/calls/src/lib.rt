@@ -39,8 +39,8 @@ pub enum Answers {
     Refused(Refusal),
 }
 
-// What is asked for of a sheet: the report in an order, the clean sheet, or both, the report in the order of
-// the call `report`.
+// What is asked for of a sheet: the report in an order, the clean sheet, or both, the report in the default
+// order.
 pub enum Job {
     Report(Order),
     Clean,
@@ -65,11 +65,14 @@ const LOW: usize = 8;
 // No report is longer; that is proved.
 const REPORT_MOST: usize = 9545;
 
+// The order of the products that `report` and `report_and_clean` name.
+const DEFAULT_ORDER: Order = Order::Plainest;
+
 // Lays the report of the sheet `text` into `room`; each of its products is the plainest.
 pub fn report(text: &[u8], room: &mut [u8]) -> Answer
     ensures { λ a. ⌜ ReportPromise Order.Plainest (now (text .entry)) (now (room .entry)) (now (room .exit)) a ⌝ }
 {
-    report_in(Order::Plainest, text, room)
+    report_in(DEFAULT_ORDER, text, room)
 }
 
 // The same; each of its products is the one with the smallest number.
@@ -547,7 +550,7 @@ fn lay_both(
     requires { ⌜ (min 64 (length (now sets)) ≤ length (now out)) × Outs (now moves) (now guards) (now sets) (min (min (min (c .moves) 256) (length (now moves))) (length (now guards))) (now out) ⌝ }
     ensures { λ a. ⌜ ((r : Sheet) → Laid (now (text .entry)) c (tables (now (names .entry)) valid (now (moves .entry)) (now (guards .entry)) (now (stops .entry)) (now («stop_guards» .entry))) (now (sets .entry)) depth r → BothFilling r (now (room .entry)) (now (room .exit)) (now (second .entry)) (now (second .exit)) a) ⌝ }
 {
-    let order = Order::Plainest;
+    let order = DEFAULT_ORDER;
     let mut rows = [0u8; 256];
     let kept = order_moves(text, c.moves, moves, guards, sets, &mut rows);
     let long = clean_length(text, c, names, valid, moves, guards, sets, out, &rows, kept);
@@ -650,7 +653,7 @@ fn longer(
 {
     let mut no_room = [0u8; 0];
     let n = put_report(
-        Order::Plainest,
+        DEFAULT_ORDER,
         &mut no_room,
         c,
         depth,

@@ -5,7 +5,7 @@ ghost use mathlib.Core.Bool.{true, false, not};
 ghost use mathlib.Core.Logic.{_⊎_};
 ghost use Prim.Native.Nat.{ℕ, _<_, _≤_};
 ghost use lib.Dec.{eqb};
-ghost use Rattle.products.specs.Sets.{bit, oneIf, In, Picked, InBoth, InOnly, Finds, Full, Lacks, countTo};
+ghost use Rattle.products.specs.Sets.{bit, oneIf, In, Picked, InBoth, InOnly, Least, Finds, Full, Lacks, countTo};
 ghost use Rattle.products.specs.Orders.{bits, features, Plainer, Before};
 ghost use Rattle.members.specs.Inside.{InWord};
 use products::Found;
@@ -72,21 +72,22 @@ pub fn least_without(order: Order, a: &[u64; 16], b: &[u64; 16]) -> Found
 fn least(order: Order, a: &[u64; 16], b: &[u64; 16], out: bool) -> Found
     ensures { λ r. ⌜ Finds (Before order) (Picked (oneIf (not out)) (now (a .entry)) (now (b .entry))) r ⌝ }
 {
-    if let Order::ByNumber = order {
-        return search(a, b, out);
-    }
-    plainest(a, b, out)
-}
-
-// Of the products that a has and b has, or has not if `out`, the plainest: that with the smallest number, or one
-// behind it with fewer features.
-fn plainest(a: &[u64; 16], b: &[u64; 16], out: bool) -> Found
-    ensures { λ r. ⌜ Finds Plainer (Picked (oneIf (not out)) (now (a .entry)) (now (b .entry))) r ⌝ }
-{
     let smallest = search(a, b, out);
+    if let Order::ByNumber = order {
+        return smallest;
+    }
     let Found::At(p) = smallest else {
         return Found::Nothing;
     };
+    Found::At(plainest(p, a, b, out))
+}
+
+// Of the products that a has and b has, or has not if `out`, the plainest: p, which has the smallest number, or one
+// behind it with fewer features.
+fn plainest(p: usize, a: &[u64; 16], b: &[u64; 16], out: bool) -> usize
+    requires { ⌜ Least _≤_ (Picked (oneIf (not out)) (now a) (now b)) p ⌝ }
+    ensures { λ r. ⌜ Least Plainer (Picked (oneIf (not out)) (now (a .entry)) (now (b .entry))) r ⌝ }
+{
     let mut best = p;
     let mut few = features_of(p);
     let mut w = p / 64;
@@ -99,7 +100,7 @@ fn plainest(a: &[u64; 16], b: &[u64; 16], out: bool) -> Found
         }
         w += 1;
     }
-    Found::At(best)
+    best
 }
 
 // How many words from the first on may have a product with fewer than `few` features: the others have as many

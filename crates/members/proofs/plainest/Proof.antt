@@ -7,27 +7,22 @@ use native.Mathlib.Omega.{arith}
 use borrow.Author.Needs.{needs}
 use Rattle.products.specs.Sets.{oneIf, Picked}
 use Rattle.products.proofs.Ordered.{bits-le}
-use Rattle.products.proofs.Laws.{found-at, found-none}
+use Rattle.products.proofs.Laws.{found-at}
 use Rattle.members.proofs.Layers.{Best, best-smallest, best-stays, best-changes, best-is}
 use Rattle.members.proofs.plainest.Statement.{statement}
 use Rattle.members.proofs.plainest.Tie as tie
 
 abbrev Inv-loop : tie.InvT-loop
-Inv-loop a b out p best₀ few₀ w₀ best few w = (w ≤ 16) × Best (Picked (oneIf (not out)) a b) w best few
+Inv-loop p a b out best₀ few₀ w₀ best few w = (w ≤ 16) × Best (Picked (oneIf (not out)) a b) w best few
 
 abbrev μ-loop : tie.MeasureT-loop
-μ-loop a b out p best₀ few₀ w₀ best few w = 16 - w
-
-returns : tie.Need-returns Inv-loop μ-loop
-returns c = found-none _ _ (c .before .before .search .ensures) (c .enum-told .given .1)
+μ-loop p a b out best₀ few₀ w₀ best few w = 16 - w
 
 features-of-requires : tie.Need-features-of-requires Inv-loop μ-loop
-features-of-requires c κs = found-at _ _ (c .before .before .before .search .ensures) (c .before .smallest .given .1) .is .first .small
+features-of-requires c κs = c .pre .is .first .small
 
 loop-holds : tie.Need-loop-holds Inv-loop μ-loop
-loop-holds c =
-    let h = found-at _ _ (c .before .before .before .before .search .ensures) (c .before .before .smallest .given .1) in
-    (omega (arith, h .is .first .small), best-smallest h (c .features-of .ensures))
+loop-holds c = (omega (arith, c .before .pre .is .first .small), best-smallest (c .before .pre) (c .features-of .ensures))
 
 plainest-in-requires : tie.Need-plainest-in-requires Inv-loop μ-loop
 plainest-in-requires c κs = (omega (arith, c .before .before .before .if1 .taken, c .before .before .before .before .words-below .ensures .0), omega (arith, c .before .before .before .before .before .loop .inv .1 .has-few, bits-le (c .before .before .before .before .before .loop .best) 10))
@@ -46,11 +41,11 @@ loop-again c =
       ⊎-elim
           (λ way. rw (way .4, way .5) (best-changes _ best on found (way .1 .given .1) (omega (arith, inside, few)) (way .3 .ensures)))
           (λ way. rw (way .2, way .3) (best-stays _ best on found (way .1 .given .1)))
-          (c .match2 .came),
+          (c .match .came),
     )
 
-returns-2 : tie.Need-returns-2 Inv-loop μ-loop
-returns-2 c = best-is (c .before .before .loop .inv .1) (c .if1 .left) (c .before .words-below .ensures .1)
+returns : tie.Need-returns Inv-loop μ-loop
+returns c = best-is (c .before .before .loop .inv .1) (c .if1 .left) (c .before .words-below .ensures .1)
 
 pub plainest-spec : {M : Type 1} → statement M
 plainest-spec =
@@ -58,10 +53,6 @@ plainest-spec =
     (tie.spec
     Inv-loop
     μ-loop
-    (λ c κs. search needs)
-    (λ c. search needs)
-    (λ c. search needs)
-    returns
     features-of-requires
     loop-holds
     (λ c κs. search needs)
@@ -77,4 +68,4 @@ plainest-spec =
     (λ c. search needs)
     (λ c. search needs)
     loop-again
-    returns-2)
+    returns)
