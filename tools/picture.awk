@@ -1,5 +1,5 @@
-# What tools/picture draws, from a report and its sheet; SHEET_NAME is the drawing's name. Nothing is
-# printed before both are read. Exit status: 0 drawn, 3 the one is not the report of the other.
+# What tools/picture draws, from a report and its sheet; SHEET_NAME is the drawing's name, and PLAINEST is
+# not empty where the report names plainest products. Nothing is printed before both are read. Exit status: 0 drawn, 3 the one is not the report of the other.
 
 BEGIN {
     # Each of these colours has a line or a shape of its own as well.
@@ -141,7 +141,7 @@ function legend(   kinds, text, i) {
 
 function footer(   text, i) {
     text = "Valid products: " count[start] ". Depth: " depth "."
-    if (names_a_product()) text = text " {..} is the plainest product that shows it, by its features."
+    if (names_a_product()) text = text " {..} is the " (ENVIRON["PLAINEST"] ? "plainest product that shows it" : "product that the report names") ", by its features."
     for (i = 1; i <= last_state; i++)
         if (some_only(states[i])) return text "<br align='left'/>n of " count[start] ": so many valid products get there.<br align='left'/>"
     return text
