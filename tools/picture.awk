@@ -1,5 +1,6 @@
 # What tools/picture draws, from a report and its sheet; SHEET_NAME is the drawing's name, and PLAINEST is
-# not empty where the report names plainest products. Nothing is printed before both are read. Exit status: 0 drawn, 3 the one is not the report of the other.
+# not empty where the report names plainest products. Nothing is printed before both are read. Exit status:
+# 0 drawn, 3 the one is not the report of the other.
 
 BEGIN {
     # Each of these colours has a line or a shape of its own as well.
