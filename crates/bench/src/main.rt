@@ -1,13 +1,15 @@
 // Runs the report, the one by number, the clean sheet or report and clean sheet of the sheet on standard input
 // many times over and writes what the last run gave: `bench report 1000`, `bench report_by_number 1000`,
 // `bench clean 1000` or `bench both 1000`. Nothing is measured here.
+#![tactic(auto)]
+
 use calls::Answers;
 use console::Input;
 use fields::Number;
 use tables::MOST_BYTES;
 
 // The call that is run.
-#[derive(Drop)]
+#[derive(Clone, Copy)]
 enum Mode {
     Report,
     ByNumber,

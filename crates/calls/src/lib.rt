@@ -1,5 +1,7 @@
 // The calls, and the one desk behind them: it owns the tables of a sheet, reads it, spreads it, and then
 // does the job asked for. The calls trust nothing and leave every room as it was where they refuse.
+#![tactic(auto)]
+
 ghost use Rattle.std.specs.Prelude.{◌≡◌, List, ℕ, ◌*◌, ◌%◌, ◌≤◌, ◌<◌, min, length, replicate};
 ghost use Rattle.refusals.specs.Refusal.{refusal};
 ghost use Rattle.products.specs.Orders.{Before};
@@ -22,14 +24,14 @@ use sheet::{Counts, SheetRead, read_blank};
 use tables::{MOST_BYTES, MOST_MOVES, MOST_STOPS};
 
 // The answer of a call with one room: done with the text's length, or refused.
-#[derive(Drop)]
+#[derive(Clone, Copy)]
 pub enum Answer {
     Done(usize),
     Refused(Refusal),
 }
 
 // The answer of a call with two: done with both lengths, or refused.
-#[derive(Drop)]
+#[derive(Clone, Copy)]
 pub enum Answers {
     Done(usize, usize),
     Refused(Refusal),
@@ -37,7 +39,7 @@ pub enum Answers {
 
 // What is asked for of a sheet: the report in an order, the clean sheet, or both, the report in the default
 // order.
-#[derive(Drop)]
+#[derive(Clone, Copy)]
 pub enum Job {
     Report(Order),
     Clean,

@@ -1,4 +1,6 @@
 // Reads one sheet from standard input and writes its clean form, or the refusal, to standard output.
+#![tactic(auto)]
+
 ghost use Rattle.std.specs.Prelude.{◌≤◌, length, take};
 ghost use Rattle.calls.specs.Promise.{CleanPromise};
 ghost use Rattle.calls.specs.Shown.{Printed};

@@ -1,5 +1,7 @@
 // Lays the clean sheet of the sheet that tables stand for: what each valid product does is kept, in a
 // normal form. The sheet may be read or made; where tables, sets and order come from is not asked.
+#![tactic(auto)]
+
 mod line;
 
 ghost use Rattle.std.specs.Prelude.{List, ℕ, ◌%◌, ◌<◌, ◌≤◌, min, length, get_or};

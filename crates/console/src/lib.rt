@@ -2,6 +2,8 @@
 // and bytes on standard output. What the operating system reads and writes no contract can say. So all
 // that shapes bytes stands in functions that promise them, and the two that hand bytes over, `print` and
 // `tell`, promise nothing.
+#![tactic(auto)]
+
 ghost use Rattle.std.specs.Prelude.{◌≡◌, length, take};
 ghost use Rattle.console.specs.Reading.{Held, Laid, Lined, piece_of};
 ghost use Rattle.console.specs.Numbers.{number_of};
@@ -11,14 +13,14 @@ use libc::{STDERR_FILENO, STDIN_FILENO, STDOUT_FILENO};
 
 // The whole input, with the number of its bytes that stand in the buffer; or one that could not be read
 // to its end.
-#[derive(Drop)]
+#[derive(Clone, Copy)]
 pub enum Input {
     Whole(usize),
     Broken,
 }
 
 // A line, with the number of its bytes; that no line comes any more; or an error.
-#[derive(Drop)]
+#[derive(Clone, Copy)]
 pub enum Line {
     Of(usize),
     End,
@@ -26,7 +28,7 @@ pub enum Line {
 }
 
 // What one read gave: bytes, and the place behind them; the end of the input; or an error.
-#[derive(Drop)]
+#[derive(Clone, Copy)]
 enum Piece {
     Upto(usize),
     End,
@@ -34,7 +36,7 @@ enum Piece {
 }
 
 // The same for one byte.
-#[derive(Drop)]
+#[derive(Clone, Copy)]
 enum Next {
     Byte(u8),
     End,

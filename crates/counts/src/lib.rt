@@ -1,4 +1,6 @@
 // A count that a caller gives, cut down to the rows that a table has: no count is trusted.
+#![tactic(auto)]
+
 ghost use Rattle.std.specs.Prelude.{◌≡◌, min};
 
 // The smaller of the two.

@@ -1,4 +1,6 @@
 // A line cut into the one, two or four fields that it must have.
+#![tactic(auto)]
+
 ghost use Rattle.std.specs.Prelude.{◌+◌, ◌<◌};
 ghost use Rattle.fields.specs.Cutting.{IsOne, CutsTwo, CutsFour};
 

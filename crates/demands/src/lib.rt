@@ -1,5 +1,7 @@
 // The demands on one page. The laws stand in specs/Demands.antt and specs/Table.antt; what a call promises
 // is said here, by a call of it and nothing else.
+#![tactic(auto)]
+
 ghost use Rattle.products.specs.declared.Order.{Order};
 ghost use Rattle.calls.specs.Promise.{ReportPromise, CleanPromise, BothPromise};
 ghost use Rattle.running.specs.Promise.{SetsUp, Acts};

@@ -1,27 +1,29 @@
 // Bytes of a line: where a mark stands, a part, the same bytes, the run of a name. Every public function
 // takes whole slices and asks nothing of its caller; none writes. What a field says is told in `values`,
 // and how a line is cut in `cutting`.
+#![tactic(auto)]
+
 ghost use Rattle.std.specs.Prelude.{◌≡◌, ◌+◌, ◌/◌, ◌<◌, ◌≤◌, min, length, slice_index};
 ghost use Rattle.std.specs.Int.Count.{count_trailing_zeros};
 ghost use Rattle.fields.specs.Bytes.{piece_of, same_bytes, shared_bytes, is_letter, is_name_byte, FirstAt, RunEnd};
 ghost use Rattle.fields.specs.Inside.{FirstOf, Digits, BeginAlike};
 
 // A number that was read, or that the bytes are none.
-#[derive(Drop)]
+#[derive(Clone, Copy)]
 pub enum Number {
     Of(usize),
     Bad,
 }
 
 // Two fields, with the place of the tab between them.
-#[derive(Drop)]
+#[derive(Clone, Copy)]
 pub enum TwoFields {
     Parted(usize),
     NotTwo,
 }
 
 // Four fields, with the places where the first three end.
-#[derive(Drop)]
+#[derive(Clone, Copy)]
 pub enum FourFields {
     Ends { b: usize, c: usize, d: usize },
     NotFour,

@@ -1,6 +1,8 @@
 // Reading a guard: its bytes to the set of products in which it holds, or a refusal with the place of
 // the leftmost faulty byte. The guard reader and the chain reader call each other; the parts of one
 // chain go in a loop, so that calls are never nested deeper than the guard is.
+#![tactic(auto)]
+
 ghost use Rattle.std.specs.Prelude.{◌≡◌, true, ℕ, ◌+◌, ◌≤◌, ◌<◌, min, length, get_or, drop, List};
 ghost use Rattle.fields.specs.Bytes.{piece_of, same_bytes, is_letter};
 ghost use Rattle.guards.specs.Guard.{Guard, Operator, Parts, byte_of, Means, PartsMean};
@@ -10,7 +12,7 @@ use products::Found;
 use tables::{NAME, NAME_END};
 
 // How far a guard was read, or the refusal with the place of the faulty byte.
-#[derive(Drop)]
+#[derive(Clone, Copy)]
 pub enum GuardRead {
     Upto(usize),
     Refused { number: u8, at: usize },

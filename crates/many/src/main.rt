@@ -3,6 +3,8 @@
 // bytes, a sheet. For each sheet four frames are written: what the programs `report`, `report_by_number` and
 // `clean` write for it, and what the call with two rooms gave. That is the line of the refusal; or `done`,
 // the report's length and the clean sheet's, tab-parted, byte 10, and then both texts. Nothing is judged here.
+#![tactic(auto)]
+
 use calls::Answers;
 use console::Line;
 use fields::Number;
@@ -16,7 +18,7 @@ const MOST_DIGITS: usize = 20;
 const LINE_ROOM: usize = 64;
 
 // What stands before a sheet's bytes: their number, or that no frame comes any more, or neither.
-#[derive(Drop)]
+#[derive(Clone, Copy)]
 enum Head {
     Length(usize),
     End,

@@ -1,5 +1,7 @@
 // What sets of products have: whether a set has a product, any, or all, and how many; of what two sets share, or
 // the first alone has, the product that comes first in an order, and whether there is one; whether two are the same.
+#![tactic(auto)]
+
 ghost use Rattle.std.specs.Prelude.{◌≡◌, true, false, not, ◌⊎◌, ℕ, ◌<◌, ◌≤◌, eqb};
 ghost use Rattle.products.specs.Sets.{bit, one_if, In, Picked, InBoth, InOnly, Least, Finds, Full, Lacks, count_to};
 ghost use Rattle.products.specs.Orders.{bits, features, Plainer, Before};

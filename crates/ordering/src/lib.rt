@@ -1,5 +1,7 @@
 // The moves that are not dead, in order: by from, then to, then the action's bytes, a shorter one before
 // its extensions. Row numbers are put in one after another; rows themselves stay where they are.
+#![tactic(auto)]
+
 ghost use Rattle.std.specs.Prelude.{◌≡◌, List, [], ◌∷◌, ◌++◌, ℕ, ◌+◌, ◌≤◌, ◌<◌, min, length, get_or, take, drop};
 ghost use Rattle.ordering.specs.Ordering.{less_bytes, row_key, key_at, MadeRow, insert_by, Orders};
 ghost use Rattle.ordering.specs.Inside.{Level, Between};
@@ -41,7 +43,7 @@ fn all_places(order: [u8; 256])
 {}
 
 // How many rows stand in order, and where the last one was put.
-#[derive(Drop)]
+#[derive(Clone, Copy)]
 struct Ordered {
     kept: usize,
     place: usize,

@@ -1,11 +1,13 @@
 // Sets of products, sixteen 64-bit words. Product p is bit p % 64 of word p / 64, so a set
 // speaks of all 1,024 products of ten features; `all` gives those of fewer. Nothing here knows of
 // guards, sheets or names.
+#![tactic(auto)]
+
 ghost use Rattle.std.specs.Prelude.{◌≡◌, ℕ, ◌-◌, ◌<◌, ◌^◌, min, max, ltb};
 ghost use Rattle.products.specs.Sets.{bit, has, one_if};
 
 // A product, or that there is none.
-#[derive(Drop)]
+#[derive(Clone, Copy)]
 pub enum Found {
     At(usize),
     Nothing,
@@ -13,7 +15,7 @@ pub enum Found {
 
 // Which of two products comes first: the plainer one, which has fewer features, or as many and the smaller
 // number; or the one with the smaller number, whatever it has.
-#[derive(Drop)]
+#[derive(Clone, Copy)]
 pub enum Order {
     Plainest,
     ByNumber,

@@ -1,5 +1,7 @@
 // Reads one sheet from standard input and writes whether it is accepted, or the refusal: a test of the
 // reader alone.
+#![tactic(auto)]
+
 use console::Input;
 use sheet::SheetRead;
 

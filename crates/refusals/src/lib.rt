@@ -1,11 +1,13 @@
 // A refusal, which every answer that can refuse carries, and the line that the programs print for it,
 // laid into a lent room. When a sheet is refused, and who writes the line where, stands elsewhere.
+#![tactic(auto)]
+
 ghost use Rattle.text.specs.Text.{Wrote};
 ghost use Rattle.refusals.specs.Refusal.{refusal_text};
 
 // Its number in the table of refusals; the line it speaks of, 0 for none; and the place in that line,
 // counted from 1, 0 for none.
-#[derive(Drop)]
+#[derive(Clone, Copy)]
 pub struct Refusal {
     pub number: u8,
     pub line: usize,

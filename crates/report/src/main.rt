@@ -1,5 +1,7 @@
 // Reads one sheet from standard input and writes its report, or the refusal, to standard output. Each product
 // in it is the plainest.
+#![tactic(auto)]
+
 ghost use Rattle.std.specs.Prelude.{◌≤◌, length, take};
 ghost use Rattle.products.specs.declared.Order.{Order};
 ghost use Rattle.calls.specs.Promise.{ReportPromise};

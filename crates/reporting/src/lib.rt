@@ -1,5 +1,7 @@
 // The report of a sheet: one row for each move, named state and stop line, and the depth. It is laid from
 // tables that stand for the sheet, read or made; where they come from is not asked here.
+#![tactic(auto)]
+
 mod row;
 
 ghost use Rattle.std.specs.Prelude.{◌≡◌, Bool, ◌||◌, List, ◌++◌, ℕ, suc, ◌%◌, ◌≤◌, ◌<◌, min, max, eqb, length, get_or};

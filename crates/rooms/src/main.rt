@@ -2,6 +2,8 @@
 // of every size from 0 to eight bytes more than it needs, each with marked bytes around it, and writes for
 // each room a line with its size and the answer, and then the room with the marks around it. Then report and
 // clean form at once, in pairs of rooms. Nothing is judged here: the walker says what should be written.
+#![tactic(auto)]
+
 mod pairs;
 
 use calls::Answer;
@@ -24,7 +26,7 @@ const MORE: usize = 8;
 const LINE_ROOM: usize = 64;
 
 // The text that is asked for.
-#[derive(Drop)]
+#[derive(Clone, Copy)]
 enum Asked {
     Report,
     ByNumber,

@@ -1,6 +1,8 @@
 // Runs a box: `run PRODUCT SHEET` sets it up with the sheet in the file named and the product, and takes it
 // through the action names on standard input, one a line. After the set-up and after each name it writes the
 // box's place or the refusal. A refused name leaves the place, a refused set-up ends the run.
+#![tactic(auto)]
+
 ghost use Rattle.std.specs.Prelude.{◌≡◌, ◌≤◌, length, take};
 ghost use Rattle.running.specs.Shown.{called_text};
 

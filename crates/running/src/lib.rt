@@ -1,6 +1,8 @@
 // The box that runs from its sheet. Set up with a sheet and a product it stands at the start; an action's
 // name takes it to the ends of that name's moves which the product makes from where it stands, and it keeps
 // its place from one action to the next. Of a sheet it knows what the reader promises, and nothing else.
+#![tactic(auto)]
+
 ghost use Rattle.std.specs.Prelude.{◌≡◌, min};
 ghost use Rattle.text.specs.Text.{Wrote};
 ghost use Rattle.refusals.specs.Refusal.{refusal};
@@ -13,7 +15,7 @@ use sheet::SheetRead;
 use tables::{ACTION, ACTION_END, FROM, MOST_MOVES, MOST_STOPS, TO};
 
 // A box: its product, and its place, the set of states in which it may be, state q as bit q.
-#[derive(Drop)]
+#[derive(Clone, Copy)]
 pub struct RunningBox {
     pub product: usize,
     pub place: u64,
@@ -23,14 +25,14 @@ pub struct RunningBox {
 const NO_STATES: u64 = 0;
 
 // What a call answers: done, or refused.
-#[derive(Drop)]
+#[derive(Clone, Copy)]
 pub enum Answer {
     Done,
     Refused(Refusal),
 }
 
 // A call's answer, and the box after it.
-#[derive(Drop)]
+#[derive(Clone, Copy)]
 pub struct Called {
     pub answer: Answer,
     pub after: RunningBox,

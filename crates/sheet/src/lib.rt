@@ -1,5 +1,7 @@
 // Reading a sheet: its bytes to tables that stand for it, or the refusal that the table of refusals
 // gives. The tables are lent and hold numbers only; names and actions are places in the sheet.
+#![tactic(auto)]
+
 mod line;
 mod row;
 
@@ -15,7 +17,7 @@ use refusals::Refusal;
 use tables::MOST_BYTES;
 
 // What an accepted sheet counts, and its start.
-#[derive(Drop)]
+#[derive(Clone, Copy)]
 pub struct Counts {
     pub features: usize,
     pub start: usize,
@@ -24,14 +26,14 @@ pub struct Counts {
 }
 
 // The outermost answer: the tables stand for the sheet, or the refusal.
-#[derive(Drop)]
+#[derive(Clone, Copy)]
 pub enum SheetRead {
     Kept(Counts),
     Refused(Refusal),
 }
 
 // How far the lines so far have come: the section reached, the number of the `valid` line, and the counts.
-#[derive(Drop)]
+#[derive(Clone, Copy)]
 pub struct Progress {
     pub section: u8,
     pub valid: usize,
@@ -42,14 +44,14 @@ pub struct Progress {
 }
 
 // A line reader's answer.
-#[derive(Drop)]
+#[derive(Clone, Copy)]
 pub enum LineRead {
     Kept(Progress),
     Refused(Refusal),
 }
 
 // Where a line stands in the text, from `at` up to `end`, and its number.
-#[derive(Drop)]
+#[derive(Clone, Copy)]
 pub struct LinePlace {
     pub at: usize,
     pub end: usize,
@@ -58,14 +60,14 @@ pub struct LinePlace {
 
 // A move's states, where its from, action and to are good; else where in the line the first bad one of
 // them begins.
-#[derive(Drop)]
+#[derive(Clone, Copy)]
 pub enum Triple {
     Good { from: usize, to: usize },
     Bad(usize),
 }
 
 // What a line is, by its word and the section reached.
-#[derive(Drop)]
+#[derive(Clone, Copy)]
 pub enum LineKind {
     Fts,
     Feature,

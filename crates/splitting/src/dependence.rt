@@ -118,7 +118,7 @@ fn first_word(set: &[u64; 16], m: usize) -> u64
 }
 
 // A word, and whether it stands for all sixteen of a set.
-#[derive(Drop)]
+#[derive(Clone, Copy)]
 struct Stand {
     one: bool,
     word: u64,

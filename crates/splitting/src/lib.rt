@@ -1,5 +1,7 @@
 // A set of products written as a guard: `0`, `1`, or split on the first feature on which it depends.
 // Nothing here knows what the set stands for.
+#![tactic(auto)]
+
 mod dependence;
 mod length;
 

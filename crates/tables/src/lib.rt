@@ -1,5 +1,6 @@
 // The tables that a sheet is read into: how many rows each may need, and what the columns of a row hold.
 // A place is counted from 0 in the sheet's bytes. No function stands here.
+#![tactic(auto)]
 
 // How long a sheet can be, and how many lines of each kind it can have.
 pub const MOST_BYTES: usize = 65536;

@@ -1,6 +1,8 @@
 // Laying bytes and decimal numbers into a lent room at a place. Each function answers the next place
 // and writes only below the room's length: on an empty room a run of calls tells how long a text
 // would be. Nothing here knows what is written.
+#![tactic(auto)]
+
 ghost use Rattle.std.specs.Prelude.{◌≡◌, List, ◌∷◌, ℕ, ◌+◌, ◌<◌, length};
 ghost use Rattle.text.specs.Text.{Wrote, behind, decimal};
 

@@ -1,4 +1,6 @@
 // What one field says: a name, an action or the number of a state.
+#![tactic(auto)]
+
 ghost use Rattle.std.specs.Prelude.{◌≡◌, List, ◌∷◌, ◌+◌, ◌-◌, ◌<◌};
 ghost use Rattle.fields.specs.Bytes.{all_name_bytes, is_name, is_action, read_state};
 
