@@ -1,0 +1,54 @@
+use mathlib.Core.Logic.{⊎_elim}
+use Prim.Native.Nat.{◌<◌, ◌-◌}
+use native.Mathlib.Omega.{arith}
+use mir.Val.{Fits}
+use mir.Syntax.{w64}
+use Rattle.text.proofs.Laws.{wrote_long}
+use Rattle.cleaning.proofs.Loops.{stops_none, stops_more, stops_pass, stops_all}
+use Rattle.cleaning.proofs.Loops.{marks_rows, left_state, left_next, left_even, left_none}
+use borrow.Author.Rules.{rules}
+use Rattle.cleaning.proofs.put_stops.Goals as goal
+use Rattle.cleaning.proofs.put_stops.Goals.{In-loop-left}
+
+low : (c : In-loop-left) → c.loop-left.q < 64
+low c =
+    let fits : Fits w64 c.states_at-leaves.result = search rules in
+    left_state _ _ c.loop-left.invariant.1 fits.fits c.loop-left.invariant.0 c.loop-left-test.true
+
+pub loop-left-init : goal.loop-left-init
+loop-left-init c = (omega arith, omega arith, stops_none (search rules))
+
+pub put_stop_at-next-requires : goal.put_stop_at-next-requires
+put_stop_at-next-requires c =
+    let test = (goal.at.put_stop_at-next-requires c).In-loop-left in
+    (low test, test.before.before.before.before.before.before.requires.0)
+
+pub overflow_add-q : goal.overflow_add-q
+overflow_add-q c = record { fits = omega (arith, low (goal.at.overflow_add-q c).In-loop-left) }
+
+pub loop-left-smaller : goal.loop-left-smaller
+loop-left-smaller c = omega (arith, low (goal.at.loop-left-smaller c).In-loop-left)
+
+pub loop-left-preserved : goal.loop-left-preserved
+loop-left-preserved c =
+    let l = low (goal.at.loop-left-preserved c).In-loop-left in
+    let loop = (goal.at.loop-left-preserved c).At-loop-left in
+    let (few, left, laid) = loop.loop.invariant in
+    let start = loop.before.before.before.before.before in
+    let marks = marks_rows _ start.args.guards.now _ _ loop.before.before.at_most.ensures loop.before.states-at.ensures in (
+      omega arith,
+      left_next _ _ left,
+      ⊎_elim (λ w. rw (w.5, w.6) (stops_more start.requires.1 laid l w.2.ensures))
+          (λ w. rw (w.1, w.2) (stops_pass start.requires.1 laid l (left_even _ _ left _ _ marks l w.0.left))) c.if-left-eq1.branch,
+    )
+
+pub shape_of-room : goal.shape_of-room
+shape_of-room c = wrote_long c.loop-left.invariant.2.laid
+
+pub returns : goal.returns
+returns c =
+    let loop = (goal.at.returns c).At-loop-left in
+    let (few, left, laid) = loop.loop.invariant in
+    let start = loop.before.before.before.before.before in
+    let marks = marks_rows _ start.args.guards.now _ _ loop.before.before.at_most.ensures loop.before.states-at.ensures in
+    stops_all start.requires.1 laid few (left_none _ _ left _ _ marks c.loop-left-test.false)

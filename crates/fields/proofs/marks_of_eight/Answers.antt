@@ -1,0 +1,6 @@
+-- `marks_of_eight`. The law of the marks, from what the callees promise. Assumes nothing.
+use Rattle.fields.proofs.Words.{first_marked}
+use Rattle.fields.proofs.marks_of_eight.Goals as goal
+
+pub returns : goal.returns
+returns c = first_marked c.wrapping_sub_u64.result c.eight.ensures c.wide.ensures.0 c.wide.ensures.1 c.wrapping_sub_u64.ensures

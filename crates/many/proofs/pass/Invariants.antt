@@ -1,0 +1,9 @@
+-- `many::pass` is safe and ends: the measure is what is left to pass over, and each turn takes some of it.
+-- Assumes nothing.
+use Rattle.many.proofs.pass.Given as goal
+
+abbrev pub invariant-loop-left : goal.invariant-loop-left
+invariant-loop-left l = Unit {0}
+
+abbrev pub decreases-loop-left : goal.decreases-loop-left
+decreases-loop-left l = l.left

@@ -1,0 +1,29 @@
+use Prim.Native.Nat.{◌-◌}
+use mathlib.Core.Logic.{⊎_elim}
+use native.Mathlib.Omega.{arith}
+use Rattle.members.proofs.Passed.{passed_bit, passed_bits, passed_word, least_at, least_none}
+use borrow.Author.Rules.{rules}
+use Rattle.members.proofs.search.Goals as goal
+
+pub search-init : goal.search-init
+search-init c = (search rules, record { none = λ q lq. absurd (omega arith) })
+
+pub loop-k-init : goal.loop-k-init
+loop-k-init c = (search rules, search rules, c.search.invariant.1)
+
+pub loop-k-preserved : goal.loop-k-preserved
+loop-k-preserved c = (search rules, search rules, passed_bit _ c.picked-x.ensures c.loop-k.invariant.2 c.loop-k-test.true c.if-x-k-eq1.false)
+
+pub search-preserved : goal.search-preserved
+search-preserved c = (
+  search rules,
+  ⊎_elim (λ x. passed_bits x.1.inv.2 x.2.left) (λ x. passed_word _ c.picked-x.ensures c.search.invariant.1 x.left) c.if-x-ne0.branch,
+)
+
+pub returns-then-w-eq16 : goal.returns-then-w-eq16
+returns-then-w-eq16 c = least_none c.search.invariant.1 c.if-w-eq16.true
+
+pub returns-then-x-k-eq1 : goal.returns-then-x-k-eq1
+returns-then-x-k-eq1 c =
+    let l = c.loop-k in
+    least_at _ c.picked-x.ensures l.invariant.2 l.invariant.0 c.loop-k-test.true c.if-x-k-eq1.true

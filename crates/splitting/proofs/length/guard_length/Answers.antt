@@ -1,0 +1,32 @@
+use Prim.Native.Nat.{◌-◌}
+use native.Mathlib.Omega.{arith}
+use Rattle.splitting.proofs.Lengths.{counted_none, counted_more, counted_few, counted_all}
+use borrow.Author.Rules.{rules}
+use Rattle.splitting.proofs.length.guard_length.Goals as goal
+
+-- neither the sum nor what is added to it is large
+mul-total : tie.Need-overflow-mul-total invariant-loop decreases-loop
+mul-total c = let h = counted_few (loop-again c) c.before.before.before.before.before.before.before.before.requires in search rules
+
+pub loop-i-init : goal.loop-i-init
+loop-i-init c = counted_none _ _ _ _
+
+pub returns-then-name-gt-MOST_NAME : goal.returns-then-name-gt-MOST_NAME
+returns-then-name-gt-MOST_NAME c = λ pos. absurd (omega arith)
+
+pub splits-requires : goal.splits-requires
+splits-requires c = omega (arith, c.loop-i-test.true, c.requires)
+
+pub overflow_add-total : goal.overflow_add-total
+overflow_add-total c = let h = counted_few (loop-again (goal.at.overflow_add-total c).After-splits) c.requires in search rules
+
+pub loop-i-preserved : goal.loop-i-preserved
+loop-i-preserved c =
+    let short = (goal.at.loop-i-preserved c).Else-name-gt-MOST_NAME in
+    let named = short.before in
+    let turn = named.before.before in
+    counted_more turn.before.loop.invariant c.splits.ensures turn.loop-test.true named.piece.ensures
+    short.if1.false (omega arith)
+
+pub returns : goal.returns
+returns c = λ pos. counted_all c.loop-i.invariant c.loop-i-test.false
