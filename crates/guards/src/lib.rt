@@ -83,7 +83,7 @@ fn refuse(number: u8, at: usize) -> GuardRead
 
 // The guard that begins at `at`, where `left` more may be nested. What the set holds after a refusal is
 // left open, here and in the five readers that follow.
-#[cycle(read_chain_read_choice_read_guard_read_open)]
+#[cycle(guard)]
 fn read_guard(
     text: &[u8],
     names: &[[usize; 2]; 10],
@@ -173,7 +173,7 @@ fn read_name(
 }
 
 // What stands behind an opened bracket: a choice or a chain, by what follows its first guard.
-#[cycle(read_chain_read_choice_read_guard_read_open)]
+#[cycle(guard)]
 fn read_open(
     text: &[u8],
     names: &[[usize; 2]; 10],
@@ -207,7 +207,7 @@ fn read_open(
 }
 
 // The two guards of a choice, whose condition holds in the set lent.
-#[cycle(read_chain_read_choice_read_guard_read_open)]
+#[cycle(guard)]
 fn read_choice(
     text: &[u8],
     names: &[[usize; 2]; 10],
@@ -248,7 +248,7 @@ fn read_choice(
 }
 
 // The parts of a chain behind the operator `op`, whose first part holds in the set lent.
-#[cycle(read_chain_read_choice_read_guard_read_open)]
+#[cycle(guard)]
 fn read_chain(
     text: &[u8],
     names: &[[usize; 2]; 10],

@@ -12,25 +12,13 @@ put_stops-requires c = c.requires.1
 
 pub shape_of-room : goal.shape_of-room
 shape_of-room c =
-    let stops = (goal.at.shape_of-room c).After-put_stops in
-    let moves = stops.before.before.before.before in
-    let start = moves.before.before.before.before in
-    let valid = start.before.before.before.before in
-    let features = valid.before.before.before.before in
-    let head = features.before.before.before.before in
-    wrote_long stops.put-stops.ensures.2
-    ∙ wrote_long moves.put-moves.ensures.2
-    ∙ wrote_long start.put-start.ensures
-    ∙ wrote_long valid.put-valid.ensures
-    ∙ wrote_long features.put-features.ensures
-    ∙ wrote_long head.put-bytes.ensures
+    wrote_long c.put_stops.ensures.2
+    ∙ wrote_long c.put_moves-f.ensures.2
+    ∙ wrote_long c.put_start-e.ensures
+    ∙ wrote_long c.put_valid-d.ensures
+    ∙ wrote_long c.put_features-b.ensures
+    ∙ wrote_long c.put_bytes-a.ensures
 
 pub returns : goal.returns
 returns c = λ t h r prepared.
-    let stops = (goal.at.returns c).After-put_stops in
-    let moves = stops.before.before.before.before in
-    let start = moves.before.before.before.before in
-    let valid = start.before.before.before.before in
-    let features = valid.before.before.before.before in
-    let head = features.before.before.before.before in
-    lays prepared (whole_clean head.put-bytes.ensures features.put-features.ensures valid.put-valid.ensures start.put-start.ensures moves.put-moves.ensures stops.put-stops.ensures t h)
+    lays prepared (whole_clean c.put_bytes-a.ensures c.put_features-b.ensures c.put_valid-d.ensures c.put_start-e.ensures c.put_moves-f.ensures c.put_stops.ensures t h)

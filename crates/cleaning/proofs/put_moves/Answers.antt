@@ -11,24 +11,19 @@ loop-i-init c = (omega arith, moves_none (search rules))
 
 pub bounds-moves-k : goal.bounds-moves-k
 bounds-moves-k c =
-    let loop = (goal.at.bounds-moves-k c).In-loop-i in
-    rw (← c.number-k.ensures) at (loop.before.before.before.before.requires.move loop.loop.i (omega arith))
+    rw (← c.number-k.ensures) at (c.requires.move c.loop-i.i (omega arith))
 
 pub bounds-sets-from : goal.bounds-sets-from
 bounds-sets-from c =
-    let loop = (goal.at.bounds-sets-from c).In-loop-i in
-    rw c.number-k.ensures (loop.before.before.before.before.requires.set loop.loop.i (omega arith))
+    rw c.number-k.ensures (c.requires.set c.loop-i.i (omega arith))
 
 pub bounds-guards-k : goal.bounds-guards-k
 bounds-guards-k c =
-    let loop = (goal.at.bounds-guards-k c).At-loop-i in
-    rw c.number-k.ensures (loop.before.before.before.before.requires.guard loop.loop.i (omega arith))
+    rw c.number-k.ensures (c.requires.guard c.loop-i.i (omega arith))
 
 pub loop-i-preserved : goal.loop-i-preserved
 loop-i-preserved c =
-    let put = (goal.at.loop-i-preserved c).After-put_move-next in
-    let number = put.before.before.before.before.before in
-    (omega arith, moves_more number.before.before.before.loop.invariant.1 (ap (λ (x : ℕ). x % 256) number.number.ensures) put.put-move.ensures)
+    (omega arith, moves_more c.loop-i.invariant.1 (ap (λ (x : ℕ). x % 256) c.number.ensures) c.put_move-next.ensures)
 
 pub shape_of-room : goal.shape_of-room
 shape_of-room c = wrote_long c.loop-i.invariant.1.laid

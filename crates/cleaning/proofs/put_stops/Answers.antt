@@ -20,8 +20,7 @@ loop-left-init c = (omega arith, omega arith, stops_none (search rules))
 
 pub put_stop_at-next-requires : goal.put_stop_at-next-requires
 put_stop_at-next-requires c =
-    let test = (goal.at.put_stop_at-next-requires c).In-loop-left in
-    (low test, test.before.before.before.before.before.before.requires.0)
+    (low (goal.at.put_stop_at-next-requires (goal.at.put_stop_at-next-requires c).After-put_stop_at-arg-1).In-loop-left, c.requires.0)
 
 pub overflow_add-q : goal.overflow_add-q
 overflow_add-q c = record { fits = omega (arith, low (goal.at.overflow_add-q c).In-loop-left) }
@@ -32,14 +31,12 @@ loop-left-smaller c = omega (arith, low (goal.at.loop-left-smaller c).In-loop-le
 pub loop-left-preserved : goal.loop-left-preserved
 loop-left-preserved c =
     let l = low (goal.at.loop-left-preserved c).In-loop-left in
-    let loop = (goal.at.loop-left-preserved c).At-loop-left in
-    let (few, left, laid) = loop.loop.invariant in
-    let start = loop.before.before.before.before.before in
-    let marks = marks_rows _ start.args.guards.now _ _ loop.before.before.at_most.ensures loop.before.states-at.ensures in (
+    let (few, left, laid) = c.loop-left.invariant in
+    let marks = marks_rows _ c.args.guards.now _ _ c.at_most-rows.ensures c.states_at-leaves.ensures in (
       omega arith,
       left_next _ _ left,
-      ⊎_elim (λ w. rw (w.5, w.6) (stops_more start.requires.1 laid l w.2.ensures))
-          (λ w. rw (w.1, w.2) (stops_pass start.requires.1 laid l (left_even _ _ left _ _ marks l w.0.left))) c.if-left-eq1.branch,
+      ⊎_elim (λ w. rw (w.5, w.6) (stops_more c.requires.1 laid l w.2.ensures))
+          (λ w. rw (w.1, w.2) (stops_pass c.requires.1 laid l (left_even _ _ left _ _ marks l w.0.left))) c.if-left-eq1.branch,
     )
 
 pub shape_of-room : goal.shape_of-room
@@ -47,8 +44,6 @@ shape_of-room c = wrote_long c.loop-left.invariant.2.laid
 
 pub returns : goal.returns
 returns c =
-    let loop = (goal.at.returns c).At-loop-left in
-    let (few, left, laid) = loop.loop.invariant in
-    let start = loop.before.before.before.before.before in
-    let marks = marks_rows _ start.args.guards.now _ _ loop.before.before.at_most.ensures loop.before.states-at.ensures in
-    stops_all start.requires.1 laid few (left_none _ _ left _ _ marks c.loop-left-test.false)
+    let (few, left, laid) = c.loop-left.invariant in
+    let marks = marks_rows _ c.args.guards.now _ _ c.at_most-rows.ensures c.states_at-leaves.ensures in
+    stops_all c.requires.1 laid few (left_none _ _ left _ _ marks c.loop-left-test.false)

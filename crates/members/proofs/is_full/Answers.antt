@@ -9,5 +9,5 @@ use Rattle.members.proofs.is_full.Goals as goal
 
 pub returns : goal.returns
 returns c =
-    let word : (k : ℕ) → k < 16 → Fits w64 (get_or c.before.args.s k 0) = λ k lk. search rules in
+    let word : (k : ℕ) → k < 16 → Fits w64 (get_or c.args.s k 0) = λ k lk. search rules in
     (λ e. full_is (c.same.ensures.0 e), λ e. lacks_is (search rules) (λ k lk. (word k lk).fits) (c.same.ensures.1 e))

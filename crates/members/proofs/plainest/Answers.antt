@@ -5,6 +5,7 @@ use Rattle.products.proofs.Ordered.{bits_le}
 use Rattle.products.proofs.Laws.{found_at}
 use Rattle.members.proofs.Layers.{best_smallest, best_stays, best_changes, best_is}
 use Rattle.members.proofs.plainest.Goals as goal
+use Rattle.members.proofs.plainest.Goals.{in-At, in_default}
 
 pub features_of-few-requires : goal.features_of-few-requires
 features_of-few-requires c = c.requires.is.first.small
@@ -26,10 +27,9 @@ loop-w-preserved c =
     let inside = c.loop-w-test.true in
     let few = c.words_below.ensures.0 in (
       omega arith,
-      ⊎_elim
-          (λ way. rw (way.4, way.5) (best_changes _ best on found way.1.given.1 (omega (arith, inside, few)) way.3.ensures))
-          (λ way. rw (way.2, way.3) (best_stays _ best on found way.1.given.1))
-          c.match-plainer.branch,
+      elim c.match-plainer.branch [
+        in-At w ↦ rw (w.best-is, w.few-is) (best_changes _ best on found w.in-At.is (omega (arith, inside, few)) w.features_of-few-in-At.ensures)
+        | in_default w ↦ rw (w.best-is, w.few-is) (best_stays _ best on found w.in_default.is) ],
     )
 
 pub returns : goal.returns

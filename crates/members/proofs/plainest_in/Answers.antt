@@ -6,6 +6,7 @@ use Rattle.products.proofs.Bits.{zero_bit}
 use Rattle.products.proofs.Ordered.{bits_le}
 use Rattle.members.proofs.Layers.{from_none, word_none, layers_past, layer_none, layer_least}
 use Rattle.members.proofs.plainest_in.Goals as goal
+use Rattle.members.proofs.plainest_in.Goals.{then-layer-ne0+else-loop-place-test, else-layer-ne0}
 
 pub returns-then-x-eq0 : goal.returns-then-x-eq0
 returns-then-x-eq0 c = word_none c.if-x-eq0.true
@@ -28,7 +29,9 @@ search-preserved c =
     let passed = c.search in (
       omega arith,
       layer_none c.args.x layer.result passed.more layer.ensures passed.invariant.1
-          (⊎_elim (λ way j l. way.1.inv.1 j (omega (arith, way.2.left))) (λ way j l. rw way.left (zero_bit j)) c.if-layer-ne0.branch),
+          (elim c.if-layer-ne0.branch [
+            then-layer-ne0+else-loop-place-test w ↦ λ j l. w.loop-place.invariant.1 j (omega (arith, w.loop-place-test.false))
+            | else-layer-ne0 w ↦ λ j l. rw w.if-layer-ne0.false (zero_bit j) ]),
     )
 
 pub returns-then-few-common : goal.returns-then-few-common
@@ -39,6 +42,5 @@ returns-then-layer-place-eq1 c =
     let layer = c.with_features in
     let passed = c.search in
     let common = c.features_of_word-common in
-    let start = (goal.at.returns-then-layer-place-eq1 c).Start in
-    layer_least start.args.x layer.result passed.more layer.ensures start.args.w common.ensures passed.invariant.1
+    layer_least c.args.x layer.result passed.more layer.ensures c.args.w common.ensures passed.invariant.1
     (omega (arith, c.if-few-common.false)) c.loop-place-test.true c.if-layer-place-eq1.true c.loop-place.invariant.1

@@ -4,6 +4,7 @@ use native.Mathlib.Omega.{arith}
 use Rattle.members.proofs.Passed.{passed_bit, passed_bits, passed_word, least_at, least_none}
 use borrow.Author.Rules.{rules}
 use Rattle.members.proofs.search.Goals as goal
+use Rattle.members.proofs.search.Goals.{then-x-ne0+else-loop-k-test, else-x-ne0}
 
 pub search-init : goal.search-init
 search-init c = (search rules, record { none = λ q lq. absurd (omega arith) })
@@ -16,8 +17,10 @@ loop-k-preserved c = (search rules, search rules, passed_bit _ c.picked-x.ensure
 
 pub search-preserved : goal.search-preserved
 search-preserved c = (
-  search rules,
-  ⊎_elim (λ x. passed_bits x.1.inv.2 x.2.left) (λ x. passed_word _ c.picked-x.ensures c.search.invariant.1 x.left) c.if-x-ne0.branch,
+  omega arith,
+  elim c.if-x-ne0.branch [
+    then-x-ne0+else-loop-k-test w ↦ passed_bits w.loop-k.invariant.2 w.loop-k-test.false
+    | else-x-ne0 w ↦ passed_word _ c.picked-x.ensures c.search.invariant.1 w.if-x-ne0.false ],
 )
 
 pub returns-then-w-eq16 : goal.returns-then-w-eq16

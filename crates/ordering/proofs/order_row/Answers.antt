@@ -13,5 +13,4 @@ returns-then-not-meets c = (λ first l o. orders_pass o (row_dead _ _ _ _ (c.mee
 
 pub returns : goal.returns
 returns c =
-    let told = (goal.at.returns c).Else-not-meets in
-    (λ first l o. orders_take o c.insert-place.ensures (row_made _ _ _ _ (told.before.meets.ensures.0 (not-false _ told.if2.false))) l (omega arith), search rules)
+    (λ first l o. orders_take o c.insert-place.ensures (row_made _ _ _ _ (c.meets.ensures.0 (not-false _ c.if-not-meets.false-raw))) l (omega arith), search rules)

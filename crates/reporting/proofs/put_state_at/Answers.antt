@@ -9,8 +9,7 @@ returns-then-sets-q c = state_past _ (search rules) c.if-sets-q.true c.put_state
 
 pub state_at-v-requires : goal.state_at-v-requires
 state_at-v-requires c =
-    let start = (goal.at.state_at-v-requires c).Start in
-    (start.requires.0, c.if-sets-q.false, omega (arith, start.requires.0, start.requires.1, c.if-sets-q.false))
+    (c.requires.0, c.if-sets-q.false, omega (arith, c.requires.0, c.requires.1, c.if-sets-q.false))
 
 pub returns : goal.returns
 returns c =

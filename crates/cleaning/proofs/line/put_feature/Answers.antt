@@ -5,7 +5,4 @@ use Rattle.cleaning.proofs.line.put_feature.Goals as goal
 
 pub returns : goal.returns
 returns c =
-    let end = (goal.at.returns c).After-put in
-    let name = end.before.before.before.before in
-    let word = name.before.before.before.before.before in
-    line_one feature_word word.put-bytes.ensures (wrote_as name.put-bytes2.ensures name.before.piece.ensures) end.put.ensures
+    line_one feature_word c.put_bytes-a.ensures (wrote_as c.put_bytes-b.ensures c.piece.ensures) c.put.ensures

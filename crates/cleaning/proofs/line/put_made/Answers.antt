@@ -6,12 +6,8 @@ use Rattle.cleaning.proofs.line.put_made.Goals as goal
 
 pub returns-then-not-exceeds : goal.returns-then-not-exceeds
 returns-then-not-exceeds c =
-    let one = (goal.at.returns-then-not-exceeds c).After-put in
-    let told = one.before.before in
-    made_full _ (told.before.exceeds.ensures.1 (not-true _ told.if1.true)) one.put.ensures
+    made_full _ (c.exceeds.ensures.1 (not-true _ c.if-not-exceeds.true-raw)) c.put.ensures
 
 pub returns : goal.returns
 returns c =
-    let laid = (goal.at.returns c).After-put_guard in
-    let told = laid.before.before.before.before.before in
-    made_split _ (told.before.exceeds.ensures.0 (not-false _ told.if1.false)) _ laid.before.before.both.ensures (omega arith) laid.put-guard.ensures
+    made_split _ (c.exceeds.ensures.0 (not-false _ c.if-not-exceeds.false-raw)) _ c.both-made.ensures (omega arith) c.put_guard.ensures

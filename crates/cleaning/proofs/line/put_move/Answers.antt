@@ -8,14 +8,12 @@ shape_of-room c = wrote_long (returns (goal.at.shape_of-room c).After-slice_know
 
 pub returns : goal.returns
 returns c =
-    let end = (goal.at.returns c).After-put in
-    let guard = end.before.before.before.before in
-    let tab'' = guard.before.before.before.before in
+    let tab'' = (goal.at.returns (goal.at.returns c).After-slice_known-10-1).After-put-g in
     let to = tab''.before.before.before.before in
     let tab' = to.before.before.before.before in
     let action = tab'.before.before.before.before in
     let tab = action.before.before.before.before.before in
     let from = tab.before.before.before.before in
     let word = from.before.before.before.before in
-    move_line_lem _ word.put-bytes.ensures from.put-number.ensures tab.put.ensures (wrote_as action.put-bytes2.ensures action.before.piece.ensures) tab'.put2.ensures to.put-number2.ensures tab''.put3.ensures guard.put_made.ensures
-    end.put4.ensures
+    move_line_lem _ word.put-bytes.ensures from.put-number.ensures tab.put.ensures (wrote_as action.put-bytes2.ensures action.before.piece.ensures) tab'.put2.ensures to.put-number2.ensures tab''.put3.ensures c.put_made-h.ensures
+    c.put.ensures

@@ -5,7 +5,4 @@ use Rattle.cleaning.proofs.line.put_start.Goals as goal
 
 pub returns : goal.returns
 returns c =
-    let end = (goal.at.returns c).After-put in
-    let state = end.before.before.before.before in
-    let word = state.before.before.before.before in
-    line_one start_word word.put-bytes.ensures state.put-number.ensures end.put.ensures
+    line_one start_word c.put_bytes-a.ensures c.put_number-b.ensures c.put.ensures

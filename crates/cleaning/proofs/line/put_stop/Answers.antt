@@ -15,19 +15,11 @@ returns-then-not-exceeds c = no_stop _ (StopAt.leaving (c.exceeds.ensures.1 (not
 
 pub returns : goal.returns
 returns c =
-    let end = (goal.at.returns c).After-put in
-    let guard = end.before.before.before.before in
-    let tab = guard.before.before.before.before in
-    let state = tab.before.before.before.before in
-    let word = state.before.before.before.before in
-    let set = word.before.before.before in
-    let stays = set.before.before.before in
-    let leaves = stays.before.before in
     stop_stays
     _
-    (leaves.before.meets.ensures.0 (not-false _ leaves.if1.false))
-    (stays.before.exceeds.ensures.0 (not-false _ stays.if2.false))
+    (c.meets.ensures.0 (not-false _ c.if-not-meets.false-raw))
+    (c.exceeds.ensures.0 (not-false _ c.if-not-exceeds.false-raw))
     _
-    set.without.ensures
+    c.without-stays.ensures
     (omega arith)
-    (line_two stop_word word.put-bytes.ensures state.put-number.ensures tab.put.ensures guard.put-guard.ensures end.put2.ensures)
+    (line_two stop_word c.put_bytes-a.ensures c.put_number-b.ensures c.put-c.ensures c.put_guard-d.ensures c.put.ensures)

@@ -5,7 +5,4 @@ use Rattle.cleaning.proofs.line.put_valid.Goals as goal
 
 pub returns : goal.returns
 returns c =
-    let end = (goal.at.returns c).After-put in
-    let guard = end.before.before.before.before in
-    let word = guard.before.before.before.before in
-    line_one valid_word word.put-bytes.ensures guard.put-guard.ensures end.put.ensures
+    line_one valid_word c.put_bytes-a.ensures c.put_guard-b.ensures c.put.ensures

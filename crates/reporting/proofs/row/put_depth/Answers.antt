@@ -6,9 +6,6 @@ use Rattle.reporting.proofs.row.put_depth.Goals as goal
 pub returns : goal.returns
 unfolding depth_row
 returns c =
-    let last = (goal.at.returns c).After-put in
-    let number = last.before.before.before.before in
-    let kind = number.before.before.before.before in
-    wrote_then kind.put-bytes.ensures
-    (wrote_then number.put-number.ensures
-    last.put.ensures)
+    wrote_then c.put_bytes-a.ensures
+    (wrote_then c.put_number-b.ensures
+    c.put.ensures)

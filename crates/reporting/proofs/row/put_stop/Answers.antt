@@ -7,13 +7,8 @@ use Rattle.reporting.proofs.row.put_stop.Goals as goal
 pub returns : goal.returns
 unfolding stop_row
 returns c =
-    let last = (goal.at.returns c).After-put in
-    let untrue = last.before.before.before.before in
-    let word = untrue.before.before.before.before.before in
-    let line = word.before.before.before.before in
-    let kind = line.before.before.before.before in
-    wrote_then kind.put-bytes.ensures
-    (wrote_then line.put-number.ensures
-    (wrote_then word.put-stop-word.ensures
-    (wrote_then (found_as untrue.put-found.ensures untrue.before.untrue-of.ensures)
-    last.put.ensures)))
+    wrote_then c.put_bytes-a.ensures
+    (wrote_then c.put_number-b.ensures
+    (wrote_then c.put_stop_word-c.ensures
+    (wrote_then (found_as c.put_found-d.ensures c.untrue_of.ensures)
+    c.put.ensures)))

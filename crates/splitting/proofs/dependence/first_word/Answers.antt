@@ -4,10 +4,5 @@ use Rattle.splitting.proofs.dependence.first_word.Goals as goal
 
 pub returns : goal.returns
 returns c =
-    let five = (goal.at.returns c).After-low_level-5 in
-    let four = five.before in
-    let three = four.before in
-    let two = three.before in
-    let one = two.before in
-    told_first one.low-level.ensures two.low-level2.ensures three.low-level3.ensures four.low-level4.ensures five.low-level5.ensures
+    told_first c.low_level.ensures c.low_level-2.ensures c.low_level-3.ensures c.low_level-4.ensures c.low_level-5.ensures
     c.low_level-6.ensures

@@ -18,8 +18,5 @@ loop-w-preserved c = made_more c.loop-w.invariant c.loop-w-test.true c.later_wor
 
 pub returns : goal.returns
 returns c =
-    let last = (goal.at.returns c).After-last_of_ten in
-    let done = last.before.before in
-    let begun = done.before.before in
-    later_all done.before.loop.invariant done.loop-test.false last.last-of-ten.ensures.1 last.last-of-ten.ensures.0 c.at_most.ensures
-    begun.if1.false begun.before.requires.0
+    later_all c.loop-w.invariant c.loop-test.false c.last_of_ten.ensures.1 c.last_of_ten.ensures.0 c.at_most.ensures
+    c.if1.false c.requires.0

@@ -4,17 +4,9 @@ use Rattle.splitting.proofs.dependence.lay_table.Goals as goal
 
 pub returns-then-m-gt6 : goal.returns-then-m-gt6
 returns-then-m-gt6 c =
-    let word = (goal.at.returns-then-m-gt6 c).After-way_told-1 in
-    let later = word.before in
-    let start = later.before.before in
-    ends_late later.lay-later.ensures.1 word.first_word.ensures start.requires.0 start.requires.1 c.if-m-gt6.true
+    ends_late c.lay_later-m.ensures.1 c.first_word-x.ensures c.requires.0 c.requires.1 c.if-m-gt6.true
 
 pub returns : goal.returns
 returns c =
-    let last = (goal.at.returns c).After-last_of_six in
-    let tested = last.before in
-    let word = tested.before in
-    let later = word.before in
-    let start = later.before.before in
-    ends_early later.lay-later.ensures.1 word.first_word.ensures start.requires.0 start.requires.1 _ last.last-of-six.ensures
-    c.at_most.ensures tested.if1.false
+    ends_early c.lay_later-m.ensures.1 c.first_word-x.ensures c.requires.0 c.requires.1 _ c.last_of_six.ensures
+    c.at_most.ensures c.if-m-gt6.false

@@ -22,11 +22,8 @@ overflow_add-total c = let h = counted_few (loop-again (goal.at.overflow_add-tot
 
 pub loop-i-preserved : goal.loop-i-preserved
 loop-i-preserved c =
-    let short = (goal.at.loop-i-preserved c).Else-name-gt-MOST_NAME in
-    let named = short.before in
-    let turn = named.before.before in
-    counted_more turn.before.loop.invariant c.splits.ensures turn.loop-test.true named.piece.ensures
-    short.if1.false (omega arith)
+    counted_more c.loop-i.invariant c.splits.ensures c.loop-i-test.true c.piece-name.ensures
+    c.if-name-gt-MOST_NAME.false (omega arith)
 
 pub returns : goal.returns
 returns c = λ pos. counted_all c.loop-i.invariant c.loop-i-test.false

@@ -11,11 +11,10 @@ overflow_add-k c = omega (arith, word_few _ c.ones-k.ensures, c.loop-w.invariant
 
 pub loop-w-preserved : goal.loop-w-preserved
 loop-w-preserved c =
-    let turn = (goal.at.loop-w-preserved c).After-split-1 in
-    let inv = turn.before.loop.invariant in (
+    let inv = c.loop-w.invariant in (
       omega arith,
       omega (arith, word_few _ c.ones-k.ensures, inv.1),
-      λ e. widened_more (inv.2 e) turn.before.before.requires turn.loop-test.true c.ones-k.ensures,
+      λ e. widened_more (inv.2 e) c.requires c.loop-w-test.true c.ones-k.ensures,
     )
 
 pub returns : goal.returns
