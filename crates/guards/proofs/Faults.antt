@@ -44,6 +44,13 @@ Bars (asking c) (b ∷ bs) = b ≡ 58 → ⊥
 Bars (choosing c g) (b ∷ bs) = b ≡ 41 → ⊥
 Bars (joining o ps) (b ∷ bs) = (b ≡ 41 → ⊥) × (b ≡ byte_of o → ⊥)
 
+-- whether a byte bars does not hang on what follows it
+pub bars_same : (f : Bracket) (b : ℕ) (bs cs : List ℕ) → Bars f (b ∷ bs) → Bars f (b ∷ cs)
+bars_same opening b bs cs h = h
+bars_same (asking c) b bs cs h = h
+bars_same (choosing c g) b bs cs h = h
+bars_same (joining o ps) b bs cs h = h
+
 pub leading_append : (n : List (List ℕ)) (f : Bracket) (x y : List ℕ) → leading f n (x ++ y) ≡ leading f n x ++ y
 leading_append n opening x y = refl
 leading_append n (asking c) x y = rw (print_append n c (63 ∷ x) y)

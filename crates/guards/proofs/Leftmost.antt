@@ -11,7 +11,7 @@ use Rattle.guards.specs.Guard.{conj, Guard, never, neg, chain, choice, one, prin
 use Rattle.guards.specs.Reading.{Outcome, took, faulty, after_part, parts, closed, otherwise, after_first, negated, read_guard, alone, read_whole, GoodNames}
 use Rattle.guards.specs.Places.{Leftmost, LeftmostFaulty}
 use Rattle.guards.proofs.RoundTrip.{EndsNamed, print_append, read_printed, read_parts}
-use Rattle.guards.proofs.Faults.{Bracket, opening, asking, choosing, joining, leading, Fits, Bars, leading_append, Printed, Alike, same_byte, Numbered, Fault, here, denying, within, behind, before, parted, printed_parted, numbered}
+use Rattle.guards.proofs.Faults.{Bracket, opening, asking, choosing, joining, leading, Fits, Bars, bars_same, leading_append, Printed, Alike, same_byte, Numbered, Fault, here, denying, within, behind, before, parted, printed_parted, numbered}
 use Rattle.guards.proofs.Exactly.{WholeFault, faulted, trailing, JudgedWhole, judged_whole}
 use Rattle.guards.proofs.Steps.{at_byte, first_fault, colon_fault, closing_fault, parts_step, part_fault}
 
@@ -100,7 +100,7 @@ module _ (n : List (List ℕ)) (good : GoodNames n) where
   stays (behind {rest = []} f w p z) y q = absurd q
   stays (behind {left} {rest = b ∷ rest} {g = g} f w p z) y q =
       same_byte rest (λ l. read_guard n (suc left) (leading f n (print g n []) ++ l) ≡ faulty 5 l) (λ i. omega arith)
-      (λ cs. let r = read_within left f w (print g n []) (b ∷ cs) (read_again p (b ∷ cs) p.apart) in r.1 ∙ barred n left r.0 f g b cs z) y q
+      (λ cs. let r = read_within left f w (print g n []) (b ∷ cs) (read_again p (b ∷ cs) p.apart) in r.1 ∙ barred n left r.0 f g b cs (bars_same f b rest cs z)) y q
 
   -- what stands before can be completed, whatever follows then
   completes : {left e : ℕ} {bs from : List ℕ} (h : Fault n left bs e from) → (c : List ℕ) × ((rest : List ℕ) → (g : Guard) × (read_guard n left (before h ++ (c ++ rest)) ≡ took g rest))

@@ -1,14 +1,14 @@
 use mathlib.Core.Path.{refl}
-use Prim.Native.Nat.{◌-◌}
+use Prim.Native.Nat.{◌-◌, min}
 use native.Mathlib.Omega.{arith}
+use lib.ListN.{length, take}
 use Rattle.guards.specs.Guard.{conj, disj}
-use Rattle.guards.specs.Reading.{otherwise, after_first}
+use Rattle.guards.specs.Reading.{otherwise, after_first, names_of, read_guard}
 use Rattle.guards.proofs.Returns.{ahead, anew, chain_done, chain_end, chain_fault, chain_more, chain_up, chained_none, choice_done, choice_end, choice_fault, choice_open, choice_stop, choice_up, guard_end, handed_on, not_deep, not_done, not_up, open_chain, open_choice, open_deep, open_done, open_end, open_fault}
-use borrow.Fn.PlainCycle.{is}
 use Rattle.guards.proofs.+guard.Goals as goal
 
 pub read_chain-loop-next-init : goal.read_chain-loop-next-init
-read_chain-loop-next-init t c = chained_none _ _ _ _ _ _ c.requires.1
+read_chain-loop-next-init t c = chained_none _ _ _ _ _ _ c.requires
 
 pub read_chain-returns-in_default : goal.read_chain-returns-in_default
 read_chain-returns-in_default t c = chain_up _ _ _ _ _ _ _ c.in_default.is c.read_guard-r.ensures _ _ _ _ c.loop-next.invariant
@@ -38,7 +38,7 @@ pub read_chain-loop-next-preserved : goal.read_chain-loop-next-preserved
 read_chain-loop-next-preserved t c = chain_more _ _ _ _ _ _ c.in-Upto.is c.read_guard-r.ensures _ _ _ _ c.loop-next.invariant _ c.if-next-field.false c.if-b-eq41.false c.if-b-op.false c.set_joined.ensures
 
 pub read_choice-returns-in_default : goal.read_choice-returns-in_default
-read_choice-returns-in_default t c = λ x m. handed_on _ _ _ _ (otherwise _ x) (λ e bs. refl) _ _ _ c.in_default.is c.read_guard-r.ensures
+read_choice-returns-in_default t c = λ x m. handed_on _ _ _ _ (otherwise (read_guard (names_of c.args.text.now c.args.names.now (min c.args.count 10)) c.args.left) x) (λ e bs. refl) _ _ _ c.in_default.is c.read_guard-r.ensures
 
 pub read_choice-returns-then-colon-field : goal.read_choice-returns-then-colon-field
 read_choice-returns-then-colon-field t c = λ x m. choice_end _ _ _ _ _ _ c.in-Upto.is c.read_guard-r.ensures x _ _ c.if-colon-field.true c.refuse.ensures
@@ -77,7 +77,7 @@ pub read_guard-returns-then-at-field : goal.read_guard-returns-then-at-field
 read_guard-returns-then-at-field t c = anew _ _ _ _ _ _ c.refuse.result _ (guard_end _ _ _ _ _ _ c.if-at-field.true c.refuse.ensures)
 
 pub read_guard-returns-then-left-eq0 : goal.read_guard-returns-then-left-eq0
-read_guard-returns-then-left-eq0 t c = anew _ _ _ _ _ _ c.refuse-then-left-eq0.result _ (not_deep _ _ _ _ (omega arith) _ _ c.if-b-eq33.true c.if-left-eq0.true c.refuse-then-left-eq0.ensures)
+read_guard-returns-then-left-eq0 t c = anew _ _ _ _ _ _ c.refuse-then-left-eq0.result _ (not_deep (take (length c.args.field.now - 0) c.args.field.now) _ c.args.left c.args.at (omega arith) _ _ c.if-b-eq33.true c.if-left-eq0.true c.refuse-then-left-eq0.ensures)
 
 pub read_guard-returns-in_default : goal.read_guard-returns-in_default
 read_guard-returns-in_default t c = anew _ _ _ _ _ _ c.read_guard-r.result _ (not_up _ _ _ _ (omega arith) _ _ c.if-b-eq33.true c.if-left-eq0.false c.in_default.is c.read_guard-r.ensures)
@@ -86,7 +86,7 @@ pub read_guard-returns-then-b-eq33 : goal.read_guard-returns-then-b-eq33
 read_guard-returns-then-b-eq33 t c = anew _ _ _ _ _ _ c.read_guard-r.result _ (not_done _ _ _ _ (omega arith) _ _ _ c.if-b-eq33.true c.if-left-eq0.false c.in-Upto.is c.read_guard-r.ensures c.set_not.ensures)
 
 pub read_guard-returns-then-left-eq0-2 : goal.read_guard-returns-then-left-eq0-2
-read_guard-returns-then-left-eq0-2 t c = anew _ _ _ _ _ _ c.refuse-then-left-eq0-2.result _ (open_deep _ _ _ _ (omega arith) _ _ c.if-b-eq40.true c.if-left-eq0-2.true c.refuse-then-left-eq0-2.ensures)
+read_guard-returns-then-left-eq0-2 t c = anew _ _ _ _ _ _ c.refuse-then-left-eq0-2.result _ (open_deep (take (length c.args.field.now - 0) c.args.field.now) _ c.args.left c.args.at (omega arith) _ _ c.if-b-eq40.true c.if-left-eq0-2.true c.refuse-then-left-eq0-2.ensures)
 
 pub read_guard-returns-then-b-eq40 : goal.read_guard-returns-then-b-eq40
 read_guard-returns-then-b-eq40 t c = anew _ _ _ _ _ _ c.read_open.result _ (open_done _ _ _ _ (omega arith) c.read_open.result _ c.if-b-eq40.true c.if-left-eq0-2.false c.read_open.ensures)
@@ -95,7 +95,7 @@ pub read_guard-returns : goal.read_guard-returns
 read_guard-returns t c = anew _ _ _ _ _ _ c.read_plain.result _ (c.read_plain.ensures _ c.if-b-eq33.false c.if-b-eq40.false)
 
 pub read_open-returns-in_default : goal.read_open-returns-in_default
-read_open-returns-in_default t c = handed_on _ _ _ _ (after_first _) (λ e bs. refl) _ _ _ c.in_default.is c.read_guard-r.ensures
+read_open-returns-in_default t c = handed_on _ _ _ _ (after_first (read_guard (names_of c.args.text.now c.args.names.now (min c.args.count 10)) c.args.left)) (λ e bs. refl) _ _ _ c.in_default.is c.read_guard-r.ensures
 
 pub read_open-returns-then-next-field : goal.read_open-returns-then-next-field
 read_open-returns-then-next-field t c = open_end _ _ _ _ _ _ c.in-Upto.is c.read_guard-r.ensures _ _ c.if-next-field.true c.refuse.ensures
