@@ -240,8 +240,8 @@ fn serve_by(
     stops: &mut [[usize; 2]],
     stop_guards: &mut [[u64; 16]],
 ) -> Answers
-    requires stop_guards_value { tables (replicate 10 (replicate 2 0)) (replicate 16 0) moves.old move_guards.old stops.old stop_guards.old ≡ blank_tables (length moves.old) (length move_guards.old) (length stops.old) (length stop_guards.old) }
-    requires text_bound { (min (length text.now) 3328 ≤ 13 * length moves.old) × (min (length text.now) 3328 ≤ 13 * length move_guards.old) × (min (length text.now) 576 ≤ 9 * length stops.old) × (min (length text.now) 576 ≤ 9 * length stop_guards.old) }
+    requires tables_blank { tables (replicate 10 (replicate 2 0)) (replicate 16 0) moves.old move_guards.old stops.old stop_guards.old ≡ blank_tables (length moves.old) (length move_guards.old) (length stops.old) (length stop_guards.old) }
+    requires tables_suffice { (min (length text.now) 3328 ≤ 13 * length moves.old) × (min (length text.now) 3328 ≤ 13 * length move_guards.old) × (min (length text.now) 576 ≤ 9 * length stops.old) × (min (length text.now) 576 ≤ 9 * length stop_guards.old) }
     ensures { Served job text.now room.old room.new second.old second.new result }
 {
     let mut names = [[0usize; 2]; 10];
@@ -663,7 +663,7 @@ fn clean_length(
     kept: usize,
 ) -> usize
     requires rows_within { RowsWithin rows.now kept moves.now guards.now sets.now }
-    requires sets_in_bounds { (min 64 (length sets.now) ≤ length out.now) × Outs moves.now guards.now sets.now (min (min (min c.moves 256) (length moves.now)) (length guards.now)) out.now }
+    requires outs_laid { (min 64 (length sets.now) ≤ length out.now) × Outs moves.now guards.now sets.now (min (min (min c.moves 256) (length moves.now)) (length guards.now)) out.now }
     ensures { (t h : List (List ℕ)) (r : Sheet) → Prepared text.now c (tables names.now valid moves.now guards.now t h) sets.now rows.now kept r → Long (IsClean r) result }
 {
     let mut none = [0u8; 0];

@@ -35,7 +35,7 @@ pub fn put_clean(
     kept: usize,
 ) -> usize
     requires rows_within { RowsWithin order.now kept moves.now guards.now sets.now }
-    requires sets_in_bounds { (min 64 (length sets.now) ≤ length out.now) × Outs moves.now guards.now sets.now (min (min (min c.moves 256) (length moves.now)) (length guards.now)) out.now }
+    requires outs_laid { (min 64 (length sets.now) ≤ length out.now) × Outs moves.now guards.now sets.now (min (min (min c.moves 256) (length moves.now)) (length guards.now)) out.now }
     ensures { (t h : List (List ℕ)) (r : Sheet) → Prepared text.now c (tables names.now valid moves.now guards.now t h) sets.now order.now kept r → (vs : List ℕ) × IsClean r vs × Wrote room.old 0 vs room.new result }
 {
     let features = c.features;

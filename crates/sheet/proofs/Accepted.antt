@@ -286,11 +286,11 @@ pub valid_small : {r : Sheet} {p : ℕ} → Accepted r → is_valid r p ≡ true
 valid_small {r} {p} ok e = let k = valid_both r p e in (k.0, k.1, product_below ok k.0)
 
 -- a move of the sheet is good, and so is a stop line
-pub good_move : {n : ℕ} {ms : List Move} {m : Move} → GoodMoves n ms → Memᴰ m ms → GoodMove n m
+pub good_move : {n : ℕ} {m : Move} {ms : List Move} → GoodMoves n ms → Memᴰ m ms → GoodMove n m
 good_move {n} g (Memᴰ.head e) = rw e g.0
 good_move g (Memᴰ.tail i) = good_move g.2 i
 
-pub good_stop : {n : ℕ} {ds : List Stop} {d : Stop} → GoodStops n ds → Memᴰ d ds → GoodStop n d
+pub good_stop : {n : ℕ} {d : Stop} {ds : List Stop} → GoodStops n ds → Memᴰ d ds → GoodStop n d
 good_stop {n} g (Memᴰ.head e) = rw e g.0
 good_stop g (Memᴰ.tail i) = good_stop g.2 i
 

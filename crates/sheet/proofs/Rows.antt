@@ -48,6 +48,7 @@ module _ {A : Type 0} where
 
   -- and each element has its row
   pub rows_of : {R : ℕ → A → Type 0} {k : ℕ} {xs : List A} {x : A} → Rows R k xs → Memᴰ x xs → (i : ℕ) × (i < k) × R i x
+  rows_of none m = elim m [ ]
   rows_of (next {k} r rs) (Memᴰ.head e) = (k, omega arith, rw e r)
   rows_of (next {k} r rs) (Memᴰ.tail m) = let z = rows_of rs m in (z.0, omega arith, z.2)
 

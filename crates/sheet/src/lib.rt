@@ -111,8 +111,8 @@ pub fn read_blank(
     stops: &mut [[usize; 2]],
     stop_guards: &mut [[u64; 16]],
 ) -> SheetRead
-    requires stop_guards_value { tables names.old valid.old moves.old move_guards.old stops.old stop_guards.old ≡ blank_tables (length moves.old) (length move_guards.old) (length stops.old) (length stop_guards.old) }
-    requires text_bound { (min (length text.now) 3328 ≤ 13 * length moves.old) × (min (length text.now) 3328 ≤ 13 * length move_guards.old) × (min (length text.now) 576 ≤ 9 * length stops.old) × (min (length text.now) 576 ≤ 9 * length stop_guards.old) }
+    requires tables_blank { tables names.old valid.old moves.old move_guards.old stops.old stop_guards.old ≡ blank_tables (length moves.old) (length move_guards.old) (length stops.old) (length stop_guards.old) }
+    requires tables_suffice { (min (length text.now) 3328 ≤ 13 * length moves.old) × (min (length text.now) 3328 ≤ 13 * length move_guards.old) × (min (length text.now) 576 ≤ 9 * length stops.old) × (min (length text.now) 576 ≤ 9 * length stop_guards.old) }
     ensures { ReadsSheet (length moves.old) (length move_guards.old) (length stops.old) (length stop_guards.old) text.now (tables names.new valid.new moves.new move_guards.new stops.new stop_guards.new) result }
 {
     if MOST_BYTES < text.len() {
@@ -223,8 +223,8 @@ fn read_lines(
     stops: &mut [[usize; 2]],
     stop_guards: &mut [[u64; 16]],
 ) -> SheetRead
-    requires stop_guards_value { (tables names.old valid.old moves.old move_guards.old stops.old stop_guards.old ≡ blank_tables (length moves.old) (length move_guards.old) (length stops.old) (length stop_guards.old)) × (get_or text.now (length text.now - 1) 0 ≡ 10) }
-    requires text_bound { (min (length text.now) 3328 ≤ 13 * length moves.old) × (min (length text.now) 3328 ≤ 13 * length move_guards.old) × (min (length text.now) 576 ≤ 9 * length stops.old) × (min (length text.now) 576 ≤ 9 * length stop_guards.old) }
+    requires blank_and_ended { (tables names.old valid.old moves.old move_guards.old stops.old stop_guards.old ≡ blank_tables (length moves.old) (length move_guards.old) (length stops.old) (length stop_guards.old)) × (get_or text.now (length text.now - 1) 0 ≡ 10) }
+    requires tables_suffice { (min (length text.now) 3328 ≤ 13 * length moves.old) × (min (length text.now) 3328 ≤ 13 * length move_guards.old) × (min (length text.now) 576 ≤ 9 * length stops.old) × (min (length text.now) 576 ≤ 9 * length stop_guards.old) }
     ensures { Ends text.now (tables names.new valid.new moves.new move_guards.new stops.new stop_guards.new) result (read_lines 1 0 nothing (lines text.now)) }
 {
     let mut seen = [0u64; 128];

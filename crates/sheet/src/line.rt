@@ -43,8 +43,8 @@ pub(crate) fn read_line(
     stop_guards: &mut [[u64; 16]],
     seen: &mut [u64; 128],
 ) -> LineRead
-    requires at_le_end { (place.at ≤ place.end) × (place.end ≤ length text.now) × (c.moves * 13 + c.stops * 9 ≤ place.at) }
-    requires text_bound { (min (length text.now) 3328 ≤ 13 * length moves.old) × (min (length text.now) 3328 ≤ 13 * length move_guards.old) × (min (length text.now) 576 ≤ 9 * length stops.old) × (min (length text.now) 576 ≤ 9 * length stop_guards.old) }
+    requires line_within { (place.at ≤ place.end) × (place.end ≤ length text.now) × (c.moves * 13 + c.stops * 9 ≤ place.at) }
+    requires tables_suffice { (min (length text.now) 3328 ≤ 13 * length moves.old) × (min (length text.now) 3328 ≤ 13 * length move_guards.old) × (min (length text.now) 576 ≤ 9 * length stops.old) × (min (length text.now) 576 ≤ 9 * length stop_guards.old) }
     ensures { (st : State) → Stands text.now (tables names.old valid.old moves.old move_guards.old stops.old stop_guards.old) seen.old c st → Says text.now (tables names.new valid.new moves.new move_guards.new stops.new stop_guards.new) seen.new result (read_line place.number place.at st (part text.now place.at place.end)) }
 {
     let at = place.at;
@@ -250,8 +250,8 @@ fn read_move(
     move_guards: &mut [[u64; 16]],
     seen: &mut [u64; 128],
 ) -> LineRead
-    requires rest_in_bounds { (at + length rest.now ≤ length text.now) × (c.moves * 13 < length text.now) }
-    requires text_bound { (min (length text.now) 3328 ≤ 13 * length moves.old) × (min (length text.now) 3328 ≤ 13 * length move_guards.old) }
+    requires rest_within { (at + length rest.now ≤ length text.now) × (c.moves * 13 < length text.now) }
+    requires tables_suffice { (min (length text.now) 3328 ≤ 13 * length moves.old) × (min (length text.now) 3328 ≤ 13 * length move_guards.old) }
     ensures { (v : List ℕ) (t h : List (List ℕ)) (st : State) → Stands text.now (tables names.now v moves.old move_guards.old t h) seen.old c st → Lies text.now rest.now at → Says text.now (tables names.now v moves.new move_guards.new t h) seen.new result (move_line line at st (as_four (fields rest.now))) }
 {
     let FourFields::Ends { b, c: m, d } = cutting::cut_four(rest) else {
@@ -368,8 +368,8 @@ fn read_stop(
     stops: &mut [[usize; 2]],
     stop_guards: &mut [[u64; 16]],
 ) -> LineRead
-    requires stops_in_bounds { c.stops * 9 < length text.now }
-    requires text_bound { (min (length text.now) 576 ≤ 9 * length stops.old) × (min (length text.now) 576 ≤ 9 * length stop_guards.old) }
+    requires stops_within { c.stops * 9 < length text.now }
+    requires tables_suffice { (min (length text.now) 576 ≤ 9 * length stops.old) × (min (length text.now) 576 ≤ 9 * length stop_guards.old) }
     ensures { (v : List ℕ) (m g : List (List ℕ)) (seen : List ℕ) (st : State) → Stands text.now (tables names.now v m g stops.old stop_guards.old) seen c st → Says text.now (tables names.now v m g stops.new stop_guards.new) seen result (stop_line line st (as_two (fields rest.now))) }
 {
     let cut = cutting::cut_two(rest);

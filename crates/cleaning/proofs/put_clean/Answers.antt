@@ -5,10 +5,10 @@ use Rattle.cleaning.proofs.Whole.{whole_clean, lays}
 use Rattle.cleaning.proofs.put_clean.Goals as goal
 
 pub put_moves-f-requires : goal.put_moves-f-requires
-put_moves-f-requires c = c.requires.0
+put_moves-f-requires c = c.requires.rows_within
 
 pub put_stops-requires : goal.put_stops-requires
-put_stops-requires c = c.requires.1
+put_stops-requires c = c.requires.outs_laid
 
 pub shape_of-room : goal.shape_of-room
 shape_of-room c =

@@ -4,4 +4,4 @@ use Rattle.ordering.proofs.Places.{between_put}
 use Rattle.ordering.proofs.insert.Goals as goal
 
 pub returns : goal.returns
-returns c = λ l v. between_put (c.place_of_lem.ensures.1 v) c.place_of_lem.ensures.0 (omega arith) (c.shift.ensures l)
+returns c = λ l v. between_put (c.place_of-place.ensures.1 v) c.place_of-place.ensures.0 (omega arith) (c.shift.ensures l)

@@ -5,16 +5,17 @@ use Rattle.sheet.proofs.Whole.{own_sized, sheet_long, sheet_empty, sheet_open, s
 use Rattle.sheet.proofs.read_blank.Goals as goal
 
 pub returns-then-text-gt-MOST_BYTES : goal.returns-then-text-gt-MOST_BYTES
-returns-then-text-gt-MOST_BYTES c = sheet_long _ (own_sized _) c.requires.0 (omega (arith, c.if-text-gt-MOST_BYTES.true)) c.refuse_sheet.ensures
+returns-then-text-gt-MOST_BYTES c = sheet_long _ (own_sized _) c.requires.tables_blank (omega (arith, c.if-text-gt-MOST_BYTES.true)) c.refuse_sheet.ensures
 
 pub returns-then-text-eq0 : goal.returns-then-text-eq0
-returns-then-text-eq0 c = sheet_empty _ (own_sized _) c.requires.0 c.if-text-eq0.true c.refuse_sheet-then-text-eq0.ensures
+returns-then-text-eq0 c = sheet_empty _ (own_sized _) c.requires.tables_blank c.if-text-eq0.true c.refuse_sheet-then-text-eq0.ensures
 
 pub returns-then-text-ne-LINE_END : goal.returns-then-text-ne-LINE_END
-returns-then-text-ne-LINE_END c = sheet_open _ (own_sized _) c.if-text-gt-MOST_BYTES.false c.if-text-eq0.false c.requires.0 c.if-text-ne-LINE_END.true c.refuse_sheet-then-text-ne-LINE_END.ensures
+returns-then-text-ne-LINE_END c = sheet_open _ (own_sized _) c.if-text-gt-MOST_BYTES.false c.if-text-eq0.false c.requires.tables_blank c.if-text-ne-LINE_END.true c.refuse_sheet-then-text-ne-LINE_END.ensures
 
 pub read_lines-r-requires : goal.read_lines-r-requires
-read_lines-r-requires c = ((c.requires.0, c.if-text-ne-LINE_END.false), c.requires.1)
+read_lines-r-requires c =
+    record { blank_and_ended = (c.requires.tables_blank, c.if-text-ne-LINE_END.false); tables_suffice = c.requires.tables_suffice }
 
 pub returns-in_default : goal.returns-in_default
 returns-in_default c =

@@ -5,7 +5,7 @@ use Rattle.sheet.proofs.Whole.{going_start, line_ends, going_refused, going_on, 
 use Rattle.sheet.proofs.read_lines.Goals as goal
 
 pub loop-at-init : goal.loop-at-init
-loop-at-init c = (rw c.no_lines-c.ensures (going_start c.requires.0.0 c.requires.0.1), refl, refl, refl, refl)
+loop-at-init c = (rw c.no_lines-c.ensures (going_start c.requires.blank_and_ended.0 c.requires.blank_and_ended.1), refl, refl, refl, refl)
 
 pub read_line-r-requires : goal.read_line-r-requires
 read_line-r-requires c =
@@ -14,8 +14,8 @@ read_line-r-requires c =
     c.find-end.ensures in
     let y = c.loop-at.invariant in
     let light = y.0.light in
-    let p = c.requires.1 in
-    ((z.0, omega arith, light), (omega (arith, y.1, p.0), omega (arith, y.2, p.1), omega (arith, y.3, p.2), omega (arith, y.4, p.3)))
+    let p = c.requires.tables_suffice in
+    record { line_within = (z.0, omega arith, light); tables_suffice = (omega (arith, y.1, p.0), omega (arith, y.2, p.1), omega (arith, y.3, p.2), omega (arith, y.4, p.3)) }
 
 pub returns-in_default : goal.returns-in_default
 returns-in_default c =

@@ -13,37 +13,37 @@ returns-then-l-w c = λ st so. refuses c.refuse.ensures (line_alone _ c.find-w.e
 pub overflow_add-next : goal.overflow_add-next
 unfolding part
 overflow_add-next c =
-    let z = (rest_lies _ _ _ c.requires.0.0
-    c.requires.0.1 _ c.if-l-w.false).within in
+    let z = (rest_lies _ _ _ c.requires.line_within.0
+    c.requires.line_within.1 _ c.if-l-w.false).within in
     omega arith
 
 pub overflow_add-next-2 : goal.overflow_add-next-2
 unfolding part
 overflow_add-next-2 c =
-    let z = (rest_lies _ _ _ c.requires.0.0
-    c.requires.0.1 _ c.if-l-w.false).within in
+    let z = (rest_lies _ _ _ c.requires.line_within.0
+    c.requires.line_within.1 _ c.if-l-w.false).within in
     omega arith
 
 pub read_feature-requires : goal.read_feature-requires
 unfolding part
 read_feature-requires c =
-    (rest_lies _ _ _ c.requires.0.0
-    c.requires.0.1 _
+    (rest_lies _ _ _ c.requires.line_within.0
+    c.requires.line_within.1 _
     c.if-l-w.false).within
 
 pub read_move-requires : goal.read_move-requires
 unfolding part
 read_move-requires c =
     let p = c.requires in
-    let z = (rest_lies _ _ _ p.0.0 p.0.1 _ c.if-l-w.false).within in
-    ((z, omega (arith, z, p.0.2)), (p.1.0, p.1.1))
+    let z = (rest_lies _ _ _ p.line_within.0 p.line_within.1 _ c.if-l-w.false).within in
+    record { rest_within = (z, omega (arith, z, p.line_within.2)); tables_suffice = (p.tables_suffice.0, p.tables_suffice.1) }
 
 pub read_stop-requires : goal.read_stop-requires
 unfolding part
 read_stop-requires c =
     let p = c.requires in
-    let z = (rest_lies _ _ _ p.0.0 p.0.1 _ c.if-l-w.false).within in
-    (omega (arith, z, p.0.2), (p.1.2, p.1.3))
+    let z = (rest_lies _ _ _ p.line_within.0 p.line_within.1 _ c.if-l-w.false).within in
+    record { stops_within = omega (arith, z, p.line_within.2); tables_suffice = (p.tables_suffice.2, p.tables_suffice.3) }
 
 pub returns-in-Fts : goal.returns-in-Fts
 unfolding part
@@ -61,8 +61,8 @@ returns-in-Feature c =
     c.if-l-w.false so.section c.line_kind-k.ensures
     c.in-Feature.is
     (c.read_feature.ensures _ _ _ _ _ _ st so
-    (rest_lies _ _ _ c.requires.0.0
-    c.requires.0.1 _
+    (rest_lies _ _ _ c.requires.line_within.0
+    c.requires.line_within.1 _
     c.if-l-w.false))
 
 pub returns-in-Valid : goal.returns-in-Valid
@@ -92,8 +92,8 @@ returns-in-Move c =
     c.in-Move.is
     (c.read_move.ensures _ _ _ st so
     (rest_lies _ _ _
-    c.requires.0.0
-    c.requires.0.1 _
+    c.requires.line_within.0
+    c.requires.line_within.1 _
     c.if-l-w.false))
 
 pub returns-in-Stop : goal.returns-in-Stop

@@ -170,11 +170,11 @@ keep_move-requires c =
       action_fits _
           c.in-Ends.is
           c.cut_four.ensures _ _
-          p.0.0,
+          p.rest_within.0,
       few,
-      omega (arith, p.0.1, p.1.0),
-      omega (arith, p.0.1, p.1.1),
-      guard_fits _ c.in-Ends.is c.cut_four.ensures _ _ p.0.0,
+      omega (arith, p.rest_within.1, p.tables_suffice.0),
+      omega (arith, p.rest_within.1, p.tables_suffice.1),
+      guard_fits _ c.in-Ends.is c.cut_four.ensures _ _ p.rest_within.0,
     )
 
 pub returns : goal.returns

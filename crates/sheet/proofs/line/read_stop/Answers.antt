@@ -81,14 +81,15 @@ returns-then-k-ge-MOST_STOPS c =
     c.in-Upto.is c.has_stop.ensures c.if-has_stop.false c.if-k-ge-MOST_STOPS.true
 
 pub bounds-stops-k : goal.bounds-stops-k
-bounds-stops-k c = let few = c.if-k-ge-MOST_STOPS.false in let p = c.requires in omega (arith, p.0, p.1.0)
+bounds-stops-k c = let few = c.if-k-ge-MOST_STOPS.false in let p = c.requires in omega (arith, p.stops_within, p.tables_suffice.0)
 
 pub bounds-stop_guards-k : goal.bounds-stop_guards-k
-bounds-stop_guards-k c = let few = c.if-k-ge-MOST_STOPS.false in let p = c.requires in omega (arith, p.0, p.1.1)
+bounds-stop_guards-k c = let few = c.if-k-ge-MOST_STOPS.false in let p = c.requires in omega (arith, p.stops_within, p.tables_suffice.1)
 
 pub returns : goal.returns
 unfolding part
 returns c =
     λ v m g seen st so.
     stop_kept _ _ st c.in-Parted.is c.cut_two-cut.ensures c.in-Of.is c.read_state-q.ensures c.read_whole-read.result _ so c.read_whole-read.ensures
-    c.in-Upto.is c.has_stop.ensures c.if-has_stop.false (slice-set-from-stops (goal.at.returns c).Else-k-ge-MOST_STOPS) (slice-set-from-stop-guards (goal.at.returns c).Else-k-ge-MOST_STOPS) c.with_stop-next.ensures
+    c.in-Upto.is c.has_stop.ensures c.if-has_stop.false (let few = c.if-k-ge-MOST_STOPS.false in let p = c.requires in omega (arith, p.stops_within, p.tables_suffice.0))
+    (let few = c.if-k-ge-MOST_STOPS.false in let p = c.requires in omega (arith, p.stops_within, p.tables_suffice.1)) c.with_stop-next.ensures

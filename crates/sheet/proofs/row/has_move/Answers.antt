@@ -8,12 +8,12 @@ loop-i-init c = rw c.at_most-i.ensures (looked_all _ _ _)
 pub returns-then-is_move : goal.returns-then-is_move
 returns-then-is_move c =
     looked_found _ _ c.loop-i.invariant c.loop-i-test.true
-    (λ m ms h. move_found _ _ _ m ms (sym (c.is_move_lem.ensures m h) ∙ c.if-is_move.true))
+    (λ m ms h. move_found _ _ _ m ms (sym (c.is_move.ensures m h) ∙ c.if-is_move.true))
 
 pub loop-i-preserved : goal.loop-i-preserved
 loop-i-preserved c =
     looked_more _ _ c.loop-i.invariant c.loop-i-test.true
-    (λ m ms h. move_more _ _ _ m ms (sym (c.is_move_lem.ensures m h) ∙ c.if-is_move.false))
+    (λ m ms h. move_more _ _ _ m ms (sym (c.is_move.ensures m h) ∙ c.if-is_move.false))
 
 pub returns : goal.returns
 returns c = looked_none _ _ c.loop-i.invariant c.loop-i-test.false (move_none _ _ _)
