@@ -7,7 +7,7 @@ pub read_blank-requires : goal.read_blank-requires
 read_blank-requires c =
     let e = c.clear.ensures in
     let l = blank_sized 256 256 64 64 e in
-    (blank_own 256 256 64 64 e, (omega (arith, l.moves), omega (arith, l.move_guards), omega (arith, l.stops), omega (arith, l.stop_guards)))
+    record { tables_blank = blank_own 256 256 64 64 e; tables_suffice = (omega (arith, l.moves), omega (arith, l.move_guards), omega (arith, l.stops), omega (arith, l.stop_guards)) }
 
 pub returns : goal.returns
 returns c =
