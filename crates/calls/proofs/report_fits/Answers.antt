@@ -8,4 +8,4 @@ pub returns-then-room-ge-REPORT_MOST : goal.returns-then-room-ge-REPORT_MOST
 returns-then-room-ge-REPORT_MOST c = (refl, λ s n v r d. never_longer d (omega (arith, c.if-room-ge-REPORT_MOST.true)))
 
 pub returns : goal.returns
-returns c = (refl, λ s n v r d. told c.args.order _ (is_long (c.put_report-n.ensures r (for_report d) (outward d c.requires.1) d.deep)) (omega (arith, c.well-formed)) refl)
+returns c = (refl, λ s n v r d. told c.args.order _ (is_long (c.put_report-n.ensures r (for_report d) (outward d c.requires.1) d.deep)) (omega (arith, c.well_formed)) refl)

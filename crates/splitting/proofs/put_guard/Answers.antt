@@ -17,7 +17,7 @@ guard_length-long-requires c =
 
 pub returns-then-long-gt0 : goal.returns-then-long-gt0
 returns-then-long-gt0 c =
-    let good = c.well-formed in
+    let good = c.well_formed in
     anew _ _ _ _
     (laid_whole _ _ _ _ _ _ _
     (laid_counted _ _ c.guard_length-long.ensures c.place_behind.ensures c.if-long-gt0.true c.if-room-at.true (search rules)
