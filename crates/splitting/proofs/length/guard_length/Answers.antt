@@ -4,10 +4,6 @@ use Rattle.splitting.proofs.Lengths.{counted_none, counted_more, counted_few, co
 use borrow.Author.Rules.{rules}
 use Rattle.splitting.proofs.length.guard_length.Goals as goal
 
--- neither the sum nor what is added to it is large
-mul-total : tie.Need-overflow-mul-total invariant-loop decreases-loop
-mul-total c = let h = counted_few (loop-again c) c.before.before.before.before.before.before.before.before.requires in search rules
-
 pub loop-i-init : goal.loop-i-init
 loop-i-init c = counted_none _ _ _ _
 
@@ -17,8 +13,16 @@ returns-then-name-gt-MOST_NAME c = λ pos. absurd (omega arith)
 pub splits-requires : goal.splits-requires
 splits-requires c = omega (arith, c.loop-i-test.true, c.requires)
 
+-- neither the sum nor what is added to it is large
+pub overflow_mul-total : goal.overflow_mul-total
+overflow_mul-total c =
+    let more = counted_more c.loop-i.invariant c.splits.ensures c.loop-i-test.true c.piece-name.ensures c.if-name-gt-MOST_NAME.false (omega arith) in
+    let h = counted_few more c.requires in search rules
+
 pub overflow_add-total : goal.overflow_add-total
-overflow_add-total c = let h = counted_few (loop-again (goal.at.overflow_add-total c).After-splits) c.requires in search rules
+overflow_add-total c =
+    let more = counted_more c.loop-i.invariant c.splits.ensures c.loop-i-test.true c.piece-name.ensures c.if-name-gt-MOST_NAME.false (omega arith) in
+    let h = counted_few more c.requires in search rules
 
 pub loop-i-preserved : goal.loop-i-preserved
 loop-i-preserved c =
