@@ -49,13 +49,13 @@ unfolding depth_row
 depth_row_lem {d = d} ok h = simp length-append (omega (arith, decimal_places d 1 (omega (arith, depth_small ok h))))
 
 module _ (R : ℕ → ℕ → Type 0) {r : Sheet} (ok : Accepted r) where
-  move_row : (m : Move) (v : Verdict) → m.line ≤ 65537 → JudgedAs R r m v → length (move_row m.line v) ≤ 25
+  move_row_lem : (m : Move) (v : Verdict) → m.line ≤ 65537 → JudgedAs R r m v → length (move_row m.line v) ≤ 25
   unfolding move_row word found_text made_of missed_of
-  move_row m (Dead (At p)) l j = simp length-append (omega (arith, line_short l, product_short ok j.1.is.valid))
-  move_row m (Dead Nothing) l j = simp length-append (omega (arith, line_short l))
-  move_row m (False p) l j = simp length-append (omega (arith, line_short l, product_short ok j.1.is.valid))
-  move_row m (Must p) l j = simp length-append (omega (arith, line_short l, product_short ok j.1.is.valid))
-  move_row m (May p q) l j = simp length-append (omega (arith, line_short l, product_short ok j.0.is.valid, product_short ok j.1.is.valid))
+  move_row_lem m (Dead (At p)) l j = simp length-append (omega (arith, line_short l, product_short ok j.1.is.valid))
+  move_row_lem m (Dead Nothing) l j = simp length-append (omega (arith, line_short l))
+  move_row_lem m (False p) l j = simp length-append (omega (arith, line_short l, product_short ok j.1.is.valid))
+  move_row_lem m (Must p) l j = simp length-append (omega (arith, line_short l, product_short ok j.1.is.valid))
+  move_row_lem m (May p q) l j = simp length-append (omega (arith, line_short l, product_short ok j.0.is.valid, product_short ok j.1.is.valid))
 
   state_row_lem : (q k : ℕ) (v : StateVerdict) → length (decimal q) ≤ 2 → length (decimal k) ≤ 4 → StateAs R r q v → length (state_row q v k) ≤ 26
   unfolding state_row state_word found_text hidden_of
@@ -72,7 +72,7 @@ module _ (R : ℕ → ℕ → Type 0) {r : Sheet} (ok : Accepted r) where
 
   move_rows : {ms : List Move} {text : List ℕ} → MovesTo 65537 ms → MoveRows R r ms text → length text ≤ 25 * length ms
   move_rows l MoveRows.none = omega arith
-  move_rows l (MoveRows.next {m} v j rows) = simp length-append (omega (arith, move_rows l.1 rows, move_row m v l.0 j))
+  move_rows l (MoveRows.next {m} v j rows) = simp length-append (omega (arith, move_rows l.1 rows, move_row_lem m v l.0 j))
 
   state_rows : {n : ℕ} {text : List ℕ} → n ≤ 64 → StateRows R r n text → length text ≤ 26 * n
   state_rows l StateRows.none = omega arith

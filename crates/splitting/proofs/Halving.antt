@@ -14,7 +14,7 @@ use Rattle.products.proofs.Laws.{has_le}
 use Rattle.guards.specs.Guard.{Guard, feature, choice}
 use Rattle.splitting.specs.Splitting.{in_set, with, without, free, guard_of}
 use Rattle.splitting.specs.Inside.{free_of, Within, Tells, First}
-use Rattle.splitting.proofs.Laws.{bool_ext, guard_ext, free_of, free_at}
+use Rattle.splitting.proofs.Laws.{bool_ext, guard_ext, free_of_lem, free_at}
 use Rattle.splitting.proofs.Marks.{two_pow, even_stride, odd_stride, marked_clear, marked_set}
 
 -- the products that the choices c of the features before i allow, by the number of the features left
@@ -66,8 +66,8 @@ module _ {s t : List ℕ} {n : ℕ} (small : n ≤ 10) (within : Within n s) (ta
 
     free_few : free_of s i c ≡ free f k
     free_few = bool_ext (free_of s i c) (free f k)
-        (λ e. free_of f k (λ q l. free_at f (9 - i) e q (omega (arith, pow_mono {i = k} {j = 9 - i} (omega arith)))))
-        (λ e. free_of f (9 - i) (λ q l. go e q l (dec_lt q (2 ^ k))))
+        (λ e. free_of_lem f k (λ q l. free_at f (9 - i) e q (omega (arith, pow_mono {i = k} {j = 9 - i} (omega arith)))))
+        (λ e. free_of_lem f (9 - i) (λ q l. go e q l (dec_lt q (2 ^ k))))
       where
         go : free f k ≡ true → (q : ℕ) → q < 2 ^ (9 - i) → Dec (q < 2 ^ k) → with f q ≡ without f q
         go e q l (yes h) = free_at f k e q h

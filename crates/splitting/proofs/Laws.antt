@@ -70,8 +70,8 @@ half : (k q : ℕ) → q < 2 ^ suc k → q / 2 < 2 ^ k
 half k q l = omega (arith, two-pow-succ k)
 
 -- the set does not depend on its first feature exactly if the halves are alike
-pub free_of : (f : ℕ → Bool) (k : ℕ) → ((q : ℕ) → q < 2 ^ k → with f q ≡ without f q) → free f k ≡ true
-free_of f k h = all_true (λ q. alike (with f q) (without f q)) (2 ^ k) (λ q l. eq_alike (with f q) (without f q) (h q l))
+pub free_of_lem : (f : ℕ → Bool) (k : ℕ) → ((q : ℕ) → q < 2 ^ k → with f q ≡ without f q) → free f k ≡ true
+free_of_lem f k h = all_true (λ q. alike (with f q) (without f q)) (2 ^ k) (λ q l. eq_alike (with f q) (without f q) (h q l))
 
 pub free_at : (f : ℕ → Bool) (k : ℕ) → free f k ≡ true → (q : ℕ) → q < 2 ^ k → with f q ≡ without f q
 free_at f k e q l = alike_eq (with f q) (without f q) (all_at (λ q. alike (with f q) (without f q)) (2 ^ k) e q l)
@@ -182,12 +182,12 @@ pub guard_empty : (k i : ℕ) (f : ℕ → Bool) → ((q : ℕ) → q < 2 ^ k �
 unfolding guard_of
 guard_empty zero i f h = rw (h 0 (omega arith)) refl
 guard_empty (suc k) i f h =
-    let e : free f k ≡ true = free_of f k (λ q l. h (2 * q + 1) (high k q l) ∙ sym (h (2 * q) (low k q l))) in
+    let e : free f k ≡ true = free_of_lem f k (λ q l. h (2 * q + 1) (high k q l) ∙ sym (h (2 * q) (low k q l))) in
     rw e (guard_empty k (suc i) (without f) (λ q l. h (2 * q) (low k q l)))
 
 pub guard_full : (k i : ℕ) (f : ℕ → Bool) → ((q : ℕ) → q < 2 ^ k → f q ≡ true) → guard_of i k f ≡ always
 unfolding guard_of
 guard_full zero i f h = rw (h 0 (omega arith)) refl
 guard_full (suc k) i f h =
-    let e : free f k ≡ true = free_of f k (λ q l. h (2 * q + 1) (high k q l) ∙ sym (h (2 * q) (low k q l))) in
+    let e : free f k ≡ true = free_of_lem f k (λ q l. h (2 * q + 1) (high k q l) ∙ sym (h (2 * q) (low k q l))) in
     rw e (guard_full k (suc i) (without f) (λ q l. h (2 * q) (low k q l)))

@@ -1,4 +1,3 @@
-use mathlib.Core.Logic.{⊎_elim}
 use Prim.Native.Nat.{◌<◌, ◌-◌}
 use native.Mathlib.Omega.{arith}
 use mir.Val.{Fits}
@@ -8,7 +7,7 @@ use Rattle.cleaning.proofs.Loops.{stops_none, stops_more, stops_pass, stops_all}
 use Rattle.cleaning.proofs.Loops.{marks_rows, left_state, left_next, left_even, left_none}
 use borrow.Author.Rules.{rules}
 use Rattle.cleaning.proofs.put_stops.Goals as goal
-use Rattle.cleaning.proofs.put_stops.Goals.{In-loop-left}
+use Rattle.cleaning.proofs.put_stops.Goals.{In-loop-left, then-left-eq1, else-left-eq1}
 
 low : (c : In-loop-left) → c.loop-left.q < 64
 low c =
@@ -20,7 +19,7 @@ loop-left-init c = (omega arith, omega arith, stops_none (search rules))
 
 pub put_stop_at-next-requires : goal.put_stop_at-next-requires
 put_stop_at-next-requires c =
-    (low (goal.at.put_stop_at-next-requires (goal.at.put_stop_at-next-requires c).After-put_stop_at-arg-1).In-loop-left, c.requires.0)
+    (low (goal.at.put_stop_at-next-requires c).In-loop-left, c.requires.0)
 
 pub overflow_add-q : goal.overflow_add-q
 overflow_add-q c = record { fits = omega (arith, low (goal.at.overflow_add-q c).In-loop-left) }
@@ -35,8 +34,9 @@ loop-left-preserved c =
     let marks = marks_rows _ c.args.guards.now _ _ c.at_most-rows.ensures c.states_at-leaves.ensures in (
       omega arith,
       left_next _ _ left,
-      ⊎_elim (λ w. rw (w.5, w.6) (stops_more c.requires.1 laid l w.2.ensures))
-          (λ w. rw (w.1, w.2) (stops_pass c.requires.1 laid l (left_even _ _ left _ _ marks l w.0.left))) c.if-left-eq1.branch,
+      elim c.if-left-eq1.branch [
+        then-left-eq1 w ↦ rw (w.room-is, w.next-is) (stops_more c.requires.1 laid l w.put_stop_at-next.ensures)
+        | else-left-eq1 w ↦ rw (w.room-is, w.next-is) (stops_pass c.requires.1 laid l (left_even _ _ left _ _ marks l w.if-left-eq1.false)) ],
     )
 
 pub shape_of-room : goal.shape_of-room

@@ -1,8 +1,8 @@
 use borrow.Author.Rules.{rules}
-use mathlib.Core.Logic.{⊎_elim}
 use native.Mathlib.Omega.{arith}
 use Rattle.reporting.proofs.Loops.{marks_are, left_all, left_small, left_next, states_none, states_passed, states_more, states_all}
 use Rattle.reporting.proofs.put_states.Goals as goal
+use Rattle.reporting.proofs.put_states.Goals.{then-named-eq1, else-named-eq1}
 
 pub loop-named-init : goal.loop-named-init
 loop-named-init c = (marks_are c.states_at-ends.result (search rules) c.states_at-leaves.ensures c.states_at-ends.ensures c.stopped_states-stopped.ensures c.named_word-named.ensures, left_all, states_none _ (search rules))
@@ -24,10 +24,9 @@ loop-named-preserved c =
     let some = c.loop-named-test.true in (
       inv.0,
       left_next inv.1 (left_small inv.1 inv.0.small some),
-      ⊎_elim
-          (λ w. states_more _ inv.0 inv.1 inv.2 w.5 w.6 some w.0.taken (search rules) w.2.ensures)
-          (λ w. states_passed _ inv.0 inv.1 inv.2 w.1 w.2 some w.0.left)
-          c.if-named-eq1.branch,
+      elim c.if-named-eq1.branch [
+        then-named-eq1 w ↦ states_more _ inv.0 inv.1 inv.2 w.room-is w.next-is some w.if-named-eq1.true (search rules) w.put_state_at-next.ensures
+        | else-named-eq1 w ↦ states_passed _ inv.0 inv.1 inv.2 w.room-is w.next-is some w.if-named-eq1.false ],
     )
 
 pub shape_of-room : goal.shape_of-room

@@ -7,7 +7,7 @@ use Rattle.reporting.proofs.Loops.{past_stop}
 use Rattle.reporting.proofs.stop_at.Goals as goal
 
 pub returns-then-sets-state : goal.returns-then-sets-state
-returns-then-sets-state c = past_stop (Before c.args.order) c.args.sets.now (get_or c.args.stop-guards.now c.args.i []) [] c.if-sets-state.true
+returns-then-sets-state c = past_stop (Before c.args.order) c.args.sets.now (get_or c.args.stop_guards.now c.args.i []) [] c.if-sets-state.true
 
 pub bounds-out-state : goal.bounds-out-state
 bounds-out-state c = omega (arith, c.requires.2, c.if-sets-state.false)

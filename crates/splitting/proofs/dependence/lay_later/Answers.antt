@@ -18,5 +18,5 @@ loop-w-preserved c = made_more c.loop-w.invariant c.loop-w-test.true c.later_wor
 
 pub returns : goal.returns
 returns c =
-    later_all c.loop-w.invariant c.loop-test.false c.last_of_ten.ensures.1 c.last_of_ten.ensures.0 c.at_most.ensures
-    c.if1.false c.requires.0
+    later_all c.loop-w.invariant c.loop-w-test.false c.last_of_ten.ensures.1 c.last_of_ten.ensures.0 c.at_most.ensures
+    c.if-n-le6.false c.requires.0
