@@ -28,7 +28,7 @@ marked-requires t c = let pre = c.requires in omega (arith, chosen_small _ _ _ p
 pub put_set-d-requires : goal.put_set-d-requires
 put_set-d-requires t c =
     let pre = c.requires in (
-      omega (arith, c.measure, c.first-x.ensures.0, pre.0, c.if-m-x.false),
+      omega (arith, c.decreases, c.first-x.ensures.0, pre.0, c.if-m-x.false),
       (
         pre.0,
         omega (arith, c.if-m-x.false),
@@ -48,7 +48,7 @@ marked-requires-then-m-y t c = let pre = c.requires in omega (arith, chosen_smal
 pub put_set-f-requires : goal.put_set-f-requires
 put_set-f-requires t c =
     let pre = c.requires in (
-      omega (arith, c.measure, c.first-y.ensures.0, pre.0, c.if-m-y.false),
+      omega (arith, c.decreases, c.first-y.ensures.0, pre.0, c.if-m-y.false),
       (
         pre.0,
         omega (arith, c.if-m-y.false),

@@ -1,4 +1,6 @@
-use Prim.Native.Nat.{◌-◌}
+use mathlib.Core.Path.{◌≡◌, refl}
+use Prim.Native.Nat.{ℕ, ◌+◌, ◌*◌}
+use lib.ListN.{length}
 use native.Mathlib.Omega.{arith}
 use Rattle.splitting.proofs.Lengths.{counted_none, counted_more, counted_few, counted_all}
 use borrow.Author.Rules.{rules}
@@ -16,12 +18,16 @@ splits-requires c = omega (arith, c.loop-i-test.true, c.requires)
 -- neither the sum nor what is added to it is large
 pub overflow_mul-total : goal.overflow_mul-total
 overflow_mul-total c =
-    let more = counted_more c.loop-i.invariant c.splits.ensures c.loop-i-test.true c.piece-name.ensures c.if-name-gt-MOST_NAME.false (omega arith) in
+    let sum : ℕ = c.loop-i.total + c.splits.result * (length c.piece-name.result.now + 5) in
+    let told : sum ≡ c.loop-i.total + c.splits.result * (length c.piece-name.result.now + 5) = refl in
+    let more = counted_more c.loop-i.invariant c.splits.ensures c.loop-i-test.true c.piece-name.ensures c.if-name-gt-MOST_NAME.false told in
     let h = counted_few more c.requires in search rules
 
 pub overflow_add-total : goal.overflow_add-total
 overflow_add-total c =
-    let more = counted_more c.loop-i.invariant c.splits.ensures c.loop-i-test.true c.piece-name.ensures c.if-name-gt-MOST_NAME.false (omega arith) in
+    let sum : ℕ = c.loop-i.total + c.splits.result * (length c.piece-name.result.now + 5) in
+    let told : sum ≡ c.loop-i.total + c.splits.result * (length c.piece-name.result.now + 5) = refl in
+    let more = counted_more c.loop-i.invariant c.splits.ensures c.loop-i-test.true c.piece-name.ensures c.if-name-gt-MOST_NAME.false told in
     let h = counted_few more c.requires in search rules
 
 pub loop-i-preserved : goal.loop-i-preserved
