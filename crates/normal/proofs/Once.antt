@@ -43,6 +43,7 @@ take_out (Memᴰ.tail {x = z} m) =
 module _ {A K : Type 0} {R : A → A → Type 0} (key : A → K) (other : (x y : A) → R x y → key x ≡ key y → ⊥) where
   -- a key comes once
   pub once : {x y : A} (xs : List A) → Rising R xs → Memᴰ x xs → Memᴰ y xs → key x ≡ key y → x ≡ y
+  once [] r i j k = elim i [ ]
   once (z ∷ xs) r (Memᴰ.head e) (Memᴰ.head d) k = e ∙ sym d
   once {x} {y} (z ∷ xs) r (Memᴰ.head e) (Memᴰ.tail j) k = absurd (other y z (r.0 y j) (sym k ∙ ap key e))
   once {x} {y} (z ∷ xs) r (Memᴰ.tail i) (Memᴰ.head d) k = absurd (other x z (r.0 x i) (k ∙ ap key d))

@@ -3,4 +3,3 @@ pub mod Meaning
 pub mod Determined
 pub mod Leading
 pub mod Shown
-pub mod Machine
