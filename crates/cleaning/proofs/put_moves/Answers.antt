@@ -23,7 +23,7 @@ bounds-guards-k c =
 
 pub loop-i-preserved : goal.loop-i-preserved
 loop-i-preserved c =
-    (omega arith, moves_more c.loop-i.invariant.1 (ap (λ (x : ℕ). x % 256) c.number.ensures) c.put_move-next.ensures)
+    (omega arith, moves_more c.loop-i.invariant.1 (ap (λ (x : ℕ). x % 256) c.number-k.ensures) c.put_move-next.ensures)
 
 pub shape_of-room : goal.shape_of-room
 shape_of-room c = wrote_long c.loop-i.invariant.1.laid

@@ -3,17 +3,14 @@ use Rattle.text.proofs.Laws.{wrote_long}
 use Rattle.cleaning.proofs.Lines.{wrote_as, move_line_lem}
 use Rattle.cleaning.proofs.line.put_move.Goals as goal
 
-pub shape_of-room : goal.shape_of-room
-shape_of-room c = wrote_long (returns (goal.at.shape_of-room c).After-slice_known-10-1).2
-
 pub returns : goal.returns
 returns c =
-    let tab'' = (goal.at.returns (goal.at.returns c).After-slice_known-10-1).After-put-g in
-    let to = tab''.before.before.before.before in
-    let tab' = to.before.before.before.before in
-    let action = tab'.before.before.before.before in
-    let tab = action.before.before.before.before.before in
-    let from = tab.before.before.before.before in
-    let word = from.before.before.before.before in
-    move_line_lem _ word.put-bytes.ensures from.put-number.ensures tab.put.ensures (wrote_as action.put-bytes2.ensures action.before.piece.ensures) tab'.put2.ensures to.put-number2.ensures tab''.put3.ensures c.put_made-h.ensures
+    move_line_lem _ c.put_bytes-a.ensures c.put_number-b.ensures c.put-c.ensures (wrote_as c.put_bytes-d.ensures c.piece.ensures) c.put-e.ensures c.put_number-f.ensures c.put-g.ensures c.put_made-h.ensures
     c.put.ensures
+
+pub shape_of-room : goal.shape_of-room
+shape_of-room c =
+    let line =
+      move_line_lem _ c.put_bytes-a.ensures c.put_number-b.ensures c.put-c.ensures (wrote_as c.put_bytes-d.ensures c.piece.ensures) c.put-e.ensures c.put_number-f.ensures c.put-g.ensures c.put_made-h.ensures
+      c.put.ensures in
+    wrote_long line.2
