@@ -4,4 +4,4 @@ use native.Mathlib.Omega.{arith}
 use Rattle.calls.proofs.serve_large.Goals as goal
 
 pub serve_by-requires : goal.serve_by-requires
-serve_by-requires c = (refl, (omega arith, omega arith, omega arith, omega arith))
+serve_by-requires c = record { tables_blank = refl; tables_suffice = (omega arith, omega arith, omega arith, omega arith) }
