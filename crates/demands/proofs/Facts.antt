@@ -23,7 +23,7 @@ abbrev pub Each : {A : Type 0} → (A → Type 0) → List A → Type 0
 Each P [] = Unit {0}
 Each P (x ∷ xs) = P x × Each P xs
 
-pub each : {A : Type 0} (P : A → Type 0) {l : List A} {a : A} → Each P l → Memᴰ a l → P a
+pub each : {A : Type 0} (P : A → Type 0) {a : A} {l : List A} → Each P l → Memᴰ a l → P a
 each P h (Memᴰ.head e) = subst P (sym e) h.0
 each P h (Memᴰ.tail i) = each P h.1 i
 

@@ -44,6 +44,7 @@ use Rattle.demands.specs.Demands.{SpellingIsntMeaning, SameAnswer, BothSameAnswe
 
 module _ {A : Type 0} {P : A → A → Type 0} where
   partner : {xs ys : List A} {x : A} → Paired P xs ys → Memᴰ x xs → (y : A) × Memᴰ y ys × P x y
+  partner Paired.none i = elim i [ ]
   partner (Paired.next {y = y} a l) (Memᴰ.head e) = (y, Memᴰ.head refl, rw e a)
   partner (Paired.next a l) (Memᴰ.tail i) = let z = partner l i in (z.0, Memᴰ.tail z.1, z.2)
 
