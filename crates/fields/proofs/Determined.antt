@@ -1,6 +1,6 @@
 -- The promises determine the answers: two answers that meet one promise for the same input are equal.
 -- The promises that are not named here are equations, and determine their answers by themselves. Assumes nothing.
-use Rattle.std.proofs.Common.{◌≡◌, ℕ, ◌+◌, ◌-◌, ◌<◌, ◌≤◌, Bool, true, false, List, length, drop, refl, ap, arith, length-drop}
+use Rattle.std.proofs.Common.{◌≡◌, ℕ, ◌+◌, ◌<◌, ◌≤◌, Bool, true, false, List, length, drop, refl, ap, arith, length-drop}
 use Rattle.fields.specs.declared.TwoFields.{TwoFields}
 use Rattle.fields.specs.declared.TwoFields.TheVariants.{Parted, NotTwo}
 use Rattle.fields.specs.declared.FourFields.{FourFields}

@@ -1,6 +1,6 @@
 -- Eight bytes in one number, and the first of them that is a given byte. The number is taken apart from its lowest byte on: a byte that is passed
 -- leaves eight zeros, and the first that is found leaves a high bit with seven zeros below, whatever stands above. Assumes nothing.
-use Rattle.std.proofs.Common.{◌≡◌, ℕ, zero, suc, ◌+◌, ◌-◌, ◌*◌, ◌/◌, ◌%◌, ◌^◌, ◌<◌, ◌≤◌, sym, refl, ap, ◌∙◌, ap₂, suc-le-suc, suc-add, pow-suc, div-add-mod', zero-add, mul-one, arith}
+use Rattle.std.proofs.Common.{◌≡◌, ℕ, zero, suc, ◌+◌, ◌-◌, ◌*◌, ◌/◌, ◌%◌, ◌^◌, ◌<◌, sym, refl, ap, ◌∙◌, ap₂, suc-le-suc, suc-add, pow-suc, div-add-mod', zero-add, mul-one, arith}
 use native.Mathlib.Nat.{one-le-pow}
 use lib.Arith.{mod-mul}
 use lib.Bits.{bit_and, bit_xor, and_block, xor_block, xor_lt, and_le_l, and_le_r, and_mask, and_comm, and_shifted, xor_add_and, xor_self, shifted_even, shifted_half, block_half, block_odd}

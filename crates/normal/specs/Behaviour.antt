@@ -3,7 +3,7 @@
 use mathlib.Core.List.{List, Memᴰ}
 use Rattle.std.specs.Prelude.{◌≡◌, ℕ}
 use Rattle.sheet.specs.Sheet.{Move, Sheet}
-use Rattle.family.specs.Ways.{Valid, Reached}
+use Rattle.family.specs.Ways.{Valid}
 use Rattle.verdicts.specs.Verdicts.{Makes}
 
 -- the product p makes the move from f by the action a to t

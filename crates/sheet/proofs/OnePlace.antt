@@ -3,7 +3,7 @@
 use mathlib.Core.Path.{◌≡◌, refl, sym, ap, ◌∙◌}
 use mathlib.Core.Bool.{cond}
 use mathlib.Core.List.{List, [], ◌∷◌, ◌++◌}
-use Prim.Native.Nat.{ℕ, ◌+◌, ◌-◌}
+use Prim.Native.Nat.{ℕ, ◌+◌}
 use native.Mathlib.Omega.{arith}
 use lib.Dec.{eqb}
 use lib.ListN.{length, length-append}
@@ -12,7 +12,7 @@ use Rattle.fields.specs.declared.Number.{Number}
 use Rattle.fields.specs.declared.Number.TheVariants.{Of, Bad}
 use Rattle.fields.specs.Bytes.{same_bytes, is_action, read_state}
 use Rattle.fields.specs.Cutting.{fields}
-use Rattle.guards.specs.Reading.{faulty, read_whole}
+use Rattle.guards.specs.Reading.{read_whole}
 use Rattle.sheet.specs.Reading.{move_word}
 use Rattle.sheet.specs.Places.{LineOf, tabbed, Concerned, FieldThere, declared_in, BeforeGuard, ByteThere}
 use Rattle.sheet.specs.Places as places

@@ -18,7 +18,7 @@ use Rattle.guards.specs.Reading.{faulty, number, read_whole, GoodNames}
 use Rattle.guards.proofs.Exactly.{whole_faulty}
 use Rattle.guards.proofs.Leftmost.{leftmost_faulty}
 use Rattle.sheet.specs.Sheet.{Sheet, names, is_valid}
-use Rattle.sheet.specs.Reading.{State, Answer, kept, refused, place_behind, is_known, moved, stopped, fts_word, feature_word, valid_word, start_word, move_word, stop_word, edition_word, fts_line, feature_line, valid_line, start_line, guarded_move, move_line, stop_line, kind_in, by_kind, by_word, read_line, none, ended, read_lines, nothing, last, read_sheet}
+use Rattle.sheet.specs.Reading.{State, Answer, refused, place_behind, is_known, moved, stopped, fts_word, feature_word, valid_word, start_word, move_word, stop_word, edition_word, fts_line, feature_line, valid_line, start_line, guarded_move, move_line, stop_line, kind_in, by_kind, by_word, read_line, none, ended, read_lines, nothing, last, read_sheet}
 use Rattle.sheet.specs.Places.{LineOf, FieldAt, Concerned, FieldThere, declaring, declared_in, BeforeGuard, ByteThere}
 use Rattle.sheet.specs.Places as places
 use Rattle.sheet.proofs.LineKinds.{by_kind_lem}

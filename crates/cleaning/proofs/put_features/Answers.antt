@@ -1,4 +1,3 @@
-use Prim.Native.Nat.{◌-◌}
 use native.Mathlib.Omega.{arith}
 use Rattle.text.proofs.Laws.{wrote_long}
 use Rattle.cleaning.proofs.Loops.{features_none, features_more, features_all}

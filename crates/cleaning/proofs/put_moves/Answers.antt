@@ -1,5 +1,5 @@
 use mathlib.Core.Path.{ap}
-use Prim.Native.Nat.{ℕ, ◌-◌, ◌%◌}
+use Prim.Native.Nat.{ℕ, ◌%◌}
 use native.Mathlib.Omega.{arith}
 use Rattle.text.proofs.Laws.{wrote_long}
 use Rattle.cleaning.proofs.Loops.{moves_none, moves_more, moves_all}

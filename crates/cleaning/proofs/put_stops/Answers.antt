@@ -1,4 +1,4 @@
-use Prim.Native.Nat.{◌<◌, ◌-◌}
+use Prim.Native.Nat.{◌<◌}
 use native.Mathlib.Omega.{arith}
 use mir.Val.{Fits}
 use mir.Syntax.{w64}
@@ -35,8 +35,9 @@ loop-left-preserved c =
       omega arith,
       left_next _ _ left,
       elim c.if-left-eq1.branch [
-        then-left-eq1 w ↦ rw (w.room-is, w.next-is) (stops_more c.requires.1 laid l w.put_stop_at-next.ensures)
-        | else-left-eq1 w ↦ rw (w.room-is, w.next-is) (stops_pass c.requires.1 laid l (left_even _ _ left _ _ marks l w.if-left-eq1.false)) ],
+        | then-left-eq1 w ↦ rw (w.room-is, w.next-is) (stops_more c.requires.1 laid l w.put_stop_at-next.ensures)
+        | else-left-eq1 w ↦ rw (w.room-is, w.next-is) (stops_pass c.requires.1 laid l (left_even _ _ left _ _ marks l w.if-left-eq1.false))
+      ],
     )
 
 pub shape_of-room : goal.shape_of-room

@@ -1,4 +1,4 @@
-use Rattle.std.proofs.Common.{◌-◌, arith, rules}
+use Rattle.std.proofs.Common.{arith, rules}
 use lib.Bits.{bit_xor}
 use lib.Count.{trailing_le}
 use Rattle.fields.proofs.Same.{alike_none, alike_less, alike_below, alike_eight}

@@ -1,4 +1,4 @@
-use Rattle.std.proofs.Common.{◌-◌, arith, rules}
+use Rattle.std.proofs.Common.{arith, rules}
 use Rattle.fields.proofs.Found.{passed_none, passed_eight, first_later, first_near, first_none}
 use Rattle.fields.proofs.find.Goals as goal
 

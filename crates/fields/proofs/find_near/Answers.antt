@@ -1,4 +1,4 @@
-use Rattle.std.proofs.Common.{◌-◌, arith, rules, below_more}
+use Rattle.std.proofs.Common.{arith, rules, below_more}
 use Rattle.fields.proofs.find_near.Goals as goal
 
 pub loop-i-init : goal.loop-i-init

@@ -1,4 +1,4 @@
-use Rattle.std.proofs.Common.{◌-◌, sym, ◌∙◌, arith}
+use Rattle.std.proofs.Common.{sym, ◌∙◌, arith}
 use borrow.Author.Tests.{not-true, not-false}
 use Rattle.fields.proofs.Runs.{passed_none, passed_more, passed_stop, passed_end}
 use Rattle.fields.proofs.run_end.Goals as goal

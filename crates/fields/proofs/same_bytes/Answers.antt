@@ -1,4 +1,4 @@
-use Rattle.std.proofs.Common.{◌-◌, sym, refl, ◌∙◌, arith, rules}
+use Rattle.std.proofs.Common.{sym, refl, ◌∙◌, arith, rules}
 use Rattle.fields.proofs.Same.{same_more, same_stop, same_end, other_length}
 use Rattle.fields.proofs.same_bytes.Goals as goal
 

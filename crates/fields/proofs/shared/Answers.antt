@@ -1,4 +1,4 @@
-use Rattle.std.proofs.Common.{◌-◌, arith}
+use Rattle.std.proofs.Common.{arith}
 use Rattle.fields.proofs.Same.{alike_less, alike_one, shared_stop, shared_end}
 use Rattle.fields.proofs.shared.Goals as goal
 

@@ -1,5 +1,3 @@
-use Prim.Native.Nat.{◌-◌}
-use mathlib.Core.Logic.{⊎_elim}
 use native.Mathlib.Omega.{arith}
 use Rattle.products.proofs.Ordered.{bits_le}
 use Rattle.products.proofs.Laws.{found_at}
@@ -28,8 +26,9 @@ loop-w-preserved c =
     let few = c.words_below.ensures.0 in (
       omega arith,
       elim c.match-plainer.branch [
-        in-At w ↦ rw (w.best-is, w.few-is) (best_changes _ best on found w.in-At.is (omega (arith, inside, few)) w.features_of-few-in-At.ensures)
-        | in_default w ↦ rw (w.best-is, w.few-is) (best_stays _ best on found w.in_default.is) ],
+        | in-At w ↦ rw (w.best-is, w.few-is) (best_changes _ best on found w.in-At.is (omega (arith, inside, few)) w.features_of-few-in-At.ensures)
+        | in_default w ↦ rw (w.best-is, w.few-is) (best_stays _ best on found w.in_default.is)
+      ],
     )
 
 pub returns : goal.returns

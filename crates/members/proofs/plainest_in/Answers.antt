@@ -1,5 +1,3 @@
-use Prim.Native.Nat.{◌-◌}
-use mathlib.Core.Logic.{⊎_elim}
 use native.Mathlib.Omega.{arith}
 use borrow.Author.Count.{below_more}
 use Rattle.products.proofs.Bits.{zero_bit}
@@ -30,8 +28,9 @@ search-preserved c =
       omega arith,
       layer_none c.args.x layer.result passed.more layer.ensures passed.invariant.1
           (elim c.if-layer-ne0.branch [
-            then-layer-ne0+else-loop-place-test w ↦ λ j l. w.loop-place.invariant.1 j (omega (arith, w.loop-place-test.false))
-            | else-layer-ne0 w ↦ λ j l. rw w.if-layer-ne0.false (zero_bit j) ]),
+            | then-layer-ne0+else-loop-place-test w ↦ λ j l. w.loop-place.invariant.1 j (omega (arith, w.loop-place-test.false))
+            | else-layer-ne0 w ↦ λ j l. rw w.if-layer-ne0.false (zero_bit j)
+          ]),
     )
 
 pub returns-then-few-common : goal.returns-then-few-common

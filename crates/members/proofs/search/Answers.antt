@@ -1,5 +1,3 @@
-use Prim.Native.Nat.{◌-◌}
-use mathlib.Core.Logic.{⊎_elim}
 use native.Mathlib.Omega.{arith}
 use Rattle.members.proofs.Passed.{passed_bit, passed_bits, passed_word, least_at, least_none}
 use borrow.Author.Rules.{rules}
@@ -19,8 +17,9 @@ pub search-preserved : goal.search-preserved
 search-preserved c = (
   omega arith,
   elim c.if-x-ne0.branch [
-    then-x-ne0+else-loop-k-test w ↦ passed_bits w.loop-k.invariant.2 w.loop-k-test.false
-    | else-x-ne0 w ↦ passed_word _ c.picked-x.ensures c.search.invariant.1 w.if-x-ne0.false ],
+    | then-x-ne0+else-loop-k-test w ↦ passed_bits w.loop-k.invariant.2 w.loop-k-test.false
+    | else-x-ne0 w ↦ passed_word _ c.picked-x.ensures c.search.invariant.1 w.if-x-ne0.false
+  ],
 )
 
 pub returns-then-w-eq16 : goal.returns-then-w-eq16

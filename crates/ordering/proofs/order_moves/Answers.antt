@@ -1,4 +1,3 @@
-use Prim.Native.Nat.{◌-◌}
 use native.Mathlib.Omega.{arith}
 use Rattle.ordering.proofs.Turns.{orders_start, orders_upto}
 use borrow.Author.Rules.{rules}

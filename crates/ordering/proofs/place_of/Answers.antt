@@ -1,5 +1,4 @@
 use mathlib.Core.Path.{refl, ap₂, ◌∙◌}
-use Prim.Native.Nat.{◌-◌}
 use native.Mathlib.Omega.{arith}
 use Rattle.ordering.specs.Ordering.{less_bytes, key_at}
 use Rattle.ordering.proofs.Places.{between_start, between_front, between_back, between_as}

@@ -1,4 +1,3 @@
-use Prim.Native.Nat.{◌-◌}
 use native.Mathlib.Omega.{arith}
 use Rattle.ordering.proofs.Places.{carries_start, carries_on, carries_end}
 use borrow.Author.Rules.{rules}

@@ -1,5 +1,5 @@
 use mathlib.Core.List.{[]}
-use Prim.Native.Nat.{◌-◌, min}
+use Prim.Native.Nat.{min}
 use lib.Bits.{bit_and}
 use Rattle.products.proofs.Bits.{bit_and_lem}
 use Rattle.products.proofs.Filled.{filled_has, by_words}

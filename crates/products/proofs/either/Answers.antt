@@ -1,5 +1,5 @@
 use mathlib.Core.List.{[]}
-use Prim.Native.Nat.{◌-◌, max}
+use Prim.Native.Nat.{max}
 use lib.Bits.{bit_or}
 use Rattle.products.proofs.Bits.{bit_or_lem}
 use Rattle.products.proofs.Filled.{filled_has, by_words}

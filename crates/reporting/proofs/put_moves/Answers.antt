@@ -1,5 +1,4 @@
 use borrow.Author.Rules.{rules}
-use Prim.Native.Nat.{◌-◌}
 use native.Mathlib.Omega.{arith}
 use Rattle.reporting.proofs.Loops.{moves_none, moves_more, moves_all}
 use Rattle.reporting.proofs.put_moves.Goals as goal

@@ -25,8 +25,9 @@ loop-named-preserved c =
       inv.0,
       left_next inv.1 (left_small inv.1 inv.0.small some),
       elim c.if-named-eq1.branch [
-        then-named-eq1 w ↦ states_more _ inv.0 inv.1 inv.2 w.room-is w.next-is some w.if-named-eq1.true (search rules) w.put_state_at-next.ensures
-        | else-named-eq1 w ↦ states_passed _ inv.0 inv.1 inv.2 w.room-is w.next-is some w.if-named-eq1.false ],
+        | then-named-eq1 w ↦ states_more _ inv.0 inv.1 inv.2 w.room-is w.next-is some w.if-named-eq1.true (search rules) w.put_state_at-next.ensures
+        | else-named-eq1 w ↦ states_passed _ inv.0 inv.1 inv.2 w.room-is w.next-is some w.if-named-eq1.false
+      ],
     )
 
 pub shape_of-room : goal.shape_of-room

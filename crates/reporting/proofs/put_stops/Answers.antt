@@ -1,5 +1,4 @@
 use borrow.Author.Rules.{rules}
-use Prim.Native.Nat.{◌-◌}
 use native.Mathlib.Omega.{arith}
 use Rattle.reporting.proofs.Loops.{stops_none, stops_more, stops_all}
 use Rattle.reporting.proofs.put_stops.Goals as goal

@@ -1,4 +1,3 @@
-use Prim.Native.Nat.{◌-◌}
 use native.Mathlib.Omega.{arith}
 use Rattle.running.proofs.Gathering.{gathered_none, gathered_more, gathered_all}
 use borrow.Author.Rules.{rules}

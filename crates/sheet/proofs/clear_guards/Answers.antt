@@ -1,4 +1,3 @@
-use Prim.Native.Nat.{◌-◌}
 use native.Mathlib.Omega.{arith}
 use Rattle.sheet.proofs.Rows.{cleared_none, cleared_more, cleared_all}
 use Rattle.sheet.proofs.clear_guards.Goals as goal

@@ -1,5 +1,4 @@
 use mathlib.Core.Path.{refl, ◌∙◌}
-use Prim.Native.Nat.{◌-◌}
 use native.Mathlib.Omega.{arith}
 use Rattle.sheet.proofs.Whole.{going_start, line_ends, going_refused, going_on, going_done}
 use Rattle.sheet.proofs.read_lines.Goals as goal

@@ -1,6 +1,6 @@
 use native.Mathlib.Omega.{arith}
 use borrow.Author.Rules.{rules}
-use Rattle.splitting.proofs.Returns.{anew, laid_leaf, laid_from, laid_met, length_met, laid_split, chosen_small, chosen_below, below_later}
+use Rattle.splitting.proofs.Returns.{anew, laid_leaf, laid_from, laid_met, laid_split, chosen_small, chosen_below, below_later}
 use Rattle.splitting.proofs.+put_set.Goals as goal
 use Rattle.splitting.proofs.+put_set.Goals.{then-m-x, else-m-x, then-m-y, else-m-y}
 
@@ -66,10 +66,12 @@ returns t c =
     anew _ _ _ _
     (laid_split _ _ c.put-a.ensures c.piece.ensures c.put_bytes-b.ensures c.put-c.ensures
     (elim c.if-m-x.branch [
-      then-m-x w ↦ laid_met (laid_leaf _ _ w.put_leaf-d.ensures w.marked.ensures given.2 w.if-m-x.true (omega (arith, pre.1)) below) w.room-is w.d-is
-      | else-m-x w ↦ laid_met (laid_from _ _ w.put_set-d.ensures given.2 w.if-m-x.false given.0 below) w.room-is w.d-is ])
+      | then-m-x w ↦ laid_met (laid_leaf _ _ w.put_leaf-d.ensures w.marked.ensures given.2 w.if-m-x.true (omega (arith, pre.1)) below) w.room-is w.d-is
+      | else-m-x w ↦ laid_met (laid_from _ _ w.put_set-d.ensures given.2 w.if-m-x.false given.0 below) w.room-is w.d-is
+    ])
     c.put-e.ensures
     (elim c.if-m-y.branch [
-      then-m-y w ↦ laid_met (laid_leaf _ _ w.put_leaf-f.ensures w.marked-then-m-y.ensures other.2 w.if-m-y.true (omega (arith, pre.1)) (omega (arith, below))) w.room-is w.f-is
-      | else-m-y w ↦ laid_met (laid_from _ _ w.put_set-f.ensures other.2 w.if-m-y.false other.0 (omega (arith, below))) w.room-is w.f-is ])
+      | then-m-y w ↦ laid_met (laid_leaf _ _ w.put_leaf-f.ensures w.marked-then-m-y.ensures other.2 w.if-m-y.true (omega (arith, pre.1)) (omega (arith, below))) w.room-is w.f-is
+      | else-m-y w ↦ laid_met (laid_from _ _ w.put_set-f.ensures other.2 w.if-m-y.false other.0 (omega (arith, below))) w.room-is w.f-is
+    ])
     c.put.ensures pre.1 pre.2 ends marked)

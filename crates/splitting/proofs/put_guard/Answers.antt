@@ -37,12 +37,11 @@ returns-then-m-j c =
     c.at_most-n.ensures c.both-few.ensures c.all.ensures)
 
 pub put_set-requires : goal.put_set-requires
-put_set-requires c =
-    (
-      omega (arith, c.at_most-n.ensures, c.lay_table-m.ensures.0),
-      c.if-m-j.false,
-      below_later 0 _ 0 (omega arith) (omega arith),
-    )
+put_set-requires c = (
+  omega (arith, c.at_most-n.ensures, c.lay_table-m.ensures.0),
+  c.if-m-j.false,
+  below_later 0 _ 0 (omega arith) (omega arith),
+)
 
 pub returns : goal.returns
 returns c =

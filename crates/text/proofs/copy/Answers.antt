@@ -1,4 +1,3 @@
-use Prim.Native.Nat.{◌-◌}
 use native.Mathlib.Omega.{arith}
 use Rattle.text.proofs.Laws.{copied_none, copied_more, copied_all}
 use borrow.Author.Rules.{rules}

@@ -1,6 +1,5 @@
 -- `put`: the byte is stored, or the place is past the room's end; either way the room is `set`, which ignores such places. Assumes nothing.
 use mathlib.Core.Path.{◌≡◌, sym, ap, ◌∙◌}
-use mathlib.Core.Logic.{⊎_elim}
 use Prim.Native.Nat.{◌≤◌}
 use native.Mathlib.Omega.{arith}
 use lib.ListN.{length, set, length-set}
@@ -14,8 +13,9 @@ use Rattle.text.proofs.put.Goals.{Joined-at-room, then-at-room, else-at-room}
 stored : (c : Joined-at-room) → c.if-at-room.room ≡ set c.args.room.now c.args.at c.args.b
 stored c =
     elim c.if-at-room.branch [
-      then-at-room w ↦ w.room-is
-      | else-at-room w ↦ w.room-is ∙ sym (set_out c.args.room.now c.args.at c.args.b (omega arith)) ]
+      | then-at-room w ↦ w.room-is
+      | else-at-room w ↦ w.room-is ∙ sym (set_out c.args.room.now c.args.at c.args.b (omega arith))
+    ]
 
 long : (c : Joined-at-room) → length c.if-at-room.room ≡ length c.args.room.now
 long c = ap length (stored c) ∙ simp length-set

@@ -1,4 +1,3 @@
-use Prim.Native.Nat.{◌-◌}
 use native.Mathlib.Omega.{arith}
 use Rattle.text.proofs.Laws.{wrote_none, wrote_long, bytes_more, bytes_all}
 use borrow.Author.Rules.{rules}

@@ -1,4 +1,3 @@
-use Prim.Native.Nat.{◌-◌}
 use native.Mathlib.Omega.{arith}
 use Rattle.values.proofs.Names.{found_none, found_more, found_all}
 use Rattle.values.proofs.all_name_bytes.Goals as goal

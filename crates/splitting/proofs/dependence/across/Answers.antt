@@ -1,4 +1,3 @@
-use Prim.Native.Nat.{◌-◌}
 use Rattle.splitting.proofs.Marks.{step_small, across_none, across_more, across_all, across_typical}
 use Rattle.splitting.proofs.dependence.across.Goals as goal
 

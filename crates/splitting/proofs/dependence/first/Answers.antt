@@ -1,4 +1,3 @@
-use Prim.Native.Nat.{◌-◌}
 use Rattle.splitting.proofs.Marks.{passed_none, mark_below, passed_more, first_here, first_none}
 use borrow.Author.Rules.{rules}
 use Rattle.splitting.proofs.dependence.first.Goals as goal

@@ -1,4 +1,3 @@
-use Prim.Native.Nat.{◌-◌}
 use native.Mathlib.Omega.{arith}
 use Rattle.splitting.proofs.Typical.{joins_none, joins_more, joins_all}
 use borrow.Author.Rules.{rules}

@@ -1,4 +1,3 @@
-use Prim.Native.Nat.{◌-◌}
 use native.Mathlib.Omega.{arith}
 use Rattle.splitting.proofs.Marks.{made_none, made_more}
 use Rattle.splitting.proofs.Ends.{later_none, later_all}

@@ -1,6 +1,6 @@
-use mathlib.Core.Logic.{inl, inr, ⊎_elim}
+use mathlib.Core.Logic.{inl, inr}
 use mathlib.Core.Path.{◌≡◌}
-use Prim.Native.Nat.{ℕ, ◌-◌}
+use Prim.Native.Nat.{ℕ}
 use native.Mathlib.Omega.{arith}
 use Rattle.splitting.proofs.Typical.{repeats_none, repeats_more, repeats_all}
 use Rattle.splitting.proofs.dependence.repeated.Goals as goal

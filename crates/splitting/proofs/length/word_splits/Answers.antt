@@ -1,4 +1,3 @@
-use Prim.Native.Nat.{◌-◌}
 use native.Mathlib.Omega.{arith}
 use Rattle.splitting.proofs.Choices.{word_few, widened_none, widened_more, widened_all}
 use Rattle.splitting.proofs.length.word_splits.Goals as goal
