@@ -4,7 +4,7 @@
 #![tactic(auto)]
 
 use calls::Answers;
-use console::Input;
+use console::{Input, Streams};
 use fields::Number;
 use tables::MOST_BYTES;
 
@@ -18,29 +18,42 @@ enum Mode {
     None,
 }
 
-fn main() {
+fn main(rt: HostRuntime) {
+    let streams = Streams {
+        stdin: rt.stdin(),
+        stdout: rt.stdout(),
+        stderr: rt.stderr(),
+    };
     let mut buf = [0u8; MOST_BYTES + 1];
-    let input = console::read_input(&mut buf);
+    let input = console::read_input(&streams, &mut buf);
     let Input::Whole(n) = input else {
         return;
     };
     let mut room = [0u8; MOST_BYTES];
     let mut clean_room = [0u8; MOST_BYTES];
     let mut word = [0u8; 16];
-    let a = os::arg(1, &mut word);
+    let a = console::word(&rt, 1, &mut word);
     let mode = mode_of(&word, a);
-    let b = os::arg(2, &mut word);
+    let b = console::word(&rt, 2, &mut word);
     let turns = turns_of(console::first(&word, b));
     if let Mode::None = mode {
-        console::tell(b"bench: report, report_by_number, clean or both, and a number\n");
+        tell_usage(&streams);
         return;
     }
     run(
+        &streams,
         console::first(&buf, n),
         &mut room,
         &mut clean_room,
         mode,
         turns,
+    );
+}
+
+fn tell_usage(streams: &Streams) {
+    console::tell(
+        streams,
+        b"bench: report, report_by_number, clean or both, and a number\n",
     );
 }
 
@@ -77,7 +90,14 @@ fn turns_of(word: &[u8]) -> usize {
 }
 
 // So many turns, of which the last is shown.
-fn run(text: &[u8], room: &mut [u8], clean_room: &mut [u8], mode: Mode, turns: usize) {
+fn run(
+    streams: &Streams,
+    text: &[u8],
+    room: &mut [u8],
+    clean_room: &mut [u8],
+    mode: Mode,
+    turns: usize,
+) {
     let mut left = turns;
     while 1 < left {
         turn(text, room, clean_room, mode);
@@ -86,7 +106,7 @@ fn run(text: &[u8], room: &mut [u8], clean_room: &mut [u8], mode: Mode, turns: u
     if left == 0 {
         return;
     }
-    show(text, room, clean_room, mode);
+    show(streams, text, room, clean_room, mode);
 }
 
 // Nothing but the call.
@@ -109,48 +129,52 @@ fn turn(text: &[u8], room: &mut [u8], clean_room: &mut [u8], mode: Mode) {
 }
 
 // The same, with what it gave written: the text, or both texts, or the line of the refusal.
-fn show(text: &[u8], room: &mut [u8], clean_room: &mut [u8], mode: Mode) {
+fn show(streams: &Streams, text: &[u8], room: &mut [u8], clean_room: &mut [u8], mode: Mode) {
     match mode {
-        Mode::Report => show_report(text, room),
-        Mode::ByNumber => show_by_number(text, room),
-        Mode::Clean => show_clean(text, room),
-        Mode::Both => show_both(text, room, clean_room),
+        Mode::Report => show_report(streams, text, room),
+        Mode::ByNumber => show_by_number(streams, text, room),
+        Mode::Clean => show_clean(streams, text, room),
+        Mode::Both => show_both(streams, text, room, clean_room),
         Mode::None => {}
     }
 }
 
-fn show_report(text: &[u8], room: &mut [u8]) {
+fn show_report(streams: &Streams, text: &[u8], room: &mut [u8]) {
     let a = calls::report(text, room);
     let n = calls::put_answer(a, room);
-    console::print(console::first(room, n));
+    console::print(streams, console::first(room, n));
 }
 
-fn show_by_number(text: &[u8], room: &mut [u8]) {
+fn show_by_number(streams: &Streams, text: &[u8], room: &mut [u8]) {
     let a = calls::report_by_number(text, room);
     let n = calls::put_answer(a, room);
-    console::print(console::first(room, n));
+    console::print(streams, console::first(room, n));
 }
 
-fn show_clean(text: &[u8], room: &mut [u8]) {
+fn show_clean(streams: &Streams, text: &[u8], room: &mut [u8]) {
     let a = calls::clean(text, room);
     let n = calls::put_answer(a, room);
-    console::print(console::first(room, n));
+    console::print(streams, console::first(room, n));
 }
 
-fn show_both(text: &[u8], room: &mut [u8], clean_room: &mut [u8]) {
+fn show_both(streams: &Streams, text: &[u8], room: &mut [u8], clean_room: &mut [u8]) {
     let r = calls::report_and_clean(text, room, clean_room);
     match r {
-        Answers::Done(n, m) => show_texts(console::first(room, n), console::first(clean_room, m)),
+        Answers::Done(n, m) => show_texts(
+            streams,
+            console::first(room, n),
+            console::first(clean_room, m),
+        ),
         Answers::Refused(q) => {
             let k = refusals::put_refusal(room, 0, q);
-            console::print(console::first(room, k));
+            console::print(streams, console::first(room, k));
         }
     }
 }
 
 // Two texts, of which the second is not written where the first could not be.
-fn show_texts(report: &[u8], clean: &[u8]) {
-    if console::print(report) {
-        console::print(clean);
+fn show_texts(streams: &Streams, report: &[u8], clean: &[u8]) {
+    if console::print(streams, report) {
+        console::print(streams, clean);
     }
 }

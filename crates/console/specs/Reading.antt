@@ -1,6 +1,6 @@
 -- What reading an input leaves in the buffer. Which bytes the system hands over, and how many, nobody can promise; that the number told fits the
 -- buffer, and that nothing behind it is written, can be. Assumes nothing: these are definitions.
-use Rattle.std.specs.Prelude.{◌≡◌, List, [], ◌∷◌, ℕ, zero, suc, ◌≤◌, min, ℤ, pos, negsuc, length, drop}
+use Rattle.std.specs.Prelude.{◌≡◌, List, [], ◌∷◌, ℕ, zero, suc, ◌≤◌, min, Result, Ok, Err, length, drop}
 use Rattle.text.specs.Text.{Wrote}
 use Rattle.console.specs.declared.Input.{Input}
 use Rattle.console.specs.declared.Input.TheVariants.{Whole, Broken}
@@ -21,12 +21,11 @@ Laid before at after (Upto next) = (bytes : List ℕ) × Wrote before at bytes a
 Laid before at after End = after ≡ before
 Laid before at after Failed = after ≡ before
 
--- what the system answers for a read into `most` bytes: how many came, 0 at the end of the input, less than 0 for an error. An error is never
--- taken for the end.
-unfoldable pub piece_of : ℤ → ℕ → Piece
-piece_of (negsuc k) most = Failed
-piece_of (pos zero) most = End
-piece_of (pos (suc k)) most = Upto (min (suc k) most)
+-- what is answered for a read into `most` bytes: how many came, 0 at the end of the input, or an error. An error is never taken for the end.
+unfoldable pub piece_of : {E : Type 0} → Result ℕ E → ℕ → Piece
+piece_of (Err e) most = Failed
+piece_of (Ok zero) most = End
+piece_of (Ok (suc k)) most = Upto (min (suc k) most)
 
 -- ---- one line of an input
 

@@ -7,7 +7,7 @@
 mod pairs;
 
 use calls::Answer;
-use console::Input;
+use console::{Input, Streams};
 use tables::MOST_BYTES;
 
 // Each text has an area of this size for its rooms and their marks.
@@ -33,37 +33,47 @@ enum Asked {
     Clean,
 }
 
-fn main() {
+fn main(rt: HostRuntime) {
+    let streams = Streams {
+        stdin: rt.stdin(),
+        stdout: rt.stdout(),
+        stderr: rt.stderr(),
+    };
     let mut buf = [0u8; MOST_BYTES + 1];
-    let input = console::read_input(&mut buf);
+    let input = console::read_input(&streams, &mut buf);
     let Input::Whole(n) = input else {
         return;
     };
     let mut area = [0u8; AREA];
     let mut clean_area = [0u8; AREA];
-    show_all(console::first(&buf, n), &mut area, &mut clean_area);
+    show_all(
+        &streams,
+        console::first(&buf, n),
+        &mut area,
+        &mut clean_area,
+    );
 }
 
 // Every room in turn, as long as all can be written.
-fn show_all(text: &[u8], area: &mut [u8], clean_area: &mut [u8]) {
-    if !rooms(text, area, Asked::Report) {
+fn show_all(streams: &Streams, text: &[u8], area: &mut [u8], clean_area: &mut [u8]) {
+    if !rooms(streams, text, area, Asked::Report) {
         return;
     }
-    if !rooms(text, area, Asked::ByNumber) {
+    if !rooms(streams, text, area, Asked::ByNumber) {
         return;
     }
-    if !rooms(text, clean_area, Asked::Clean) {
+    if !rooms(streams, text, clean_area, Asked::Clean) {
         return;
     }
-    pairs::pairs(text, area, clean_area);
+    pairs::pairs(streams, text, area, clean_area);
 }
 
 // The text in rooms of each size in turn; answers whether all was written.
-fn rooms(text: &[u8], area: &mut [u8], asked: Asked) -> bool {
+fn rooms(streams: &Streams, text: &[u8], area: &mut [u8], asked: Asked) -> bool {
     let count = sizes(text, area, asked);
     let mut size = 0;
     while size < count {
-        if !room(text, area, size, asked) {
+        if !room(streams, text, area, size, asked) {
             return false;
         }
         size += 1;
@@ -90,7 +100,7 @@ fn lay(text: &[u8], room: &mut [u8], asked: Asked) -> Answer {
 
 // A room of `size` bytes with 32 marked bytes on each side; none where the area is too small for it.
 // Answers whether all was written.
-fn room(text: &[u8], area: &mut [u8], size: usize, asked: Asked) -> bool {
+fn room(streams: &Streams, text: &[u8], area: &mut [u8], size: usize, asked: Asked) -> bool {
     if area.len() < BOTH_SIDES {
         return true;
     }
@@ -100,10 +110,10 @@ fn room(text: &[u8], area: &mut [u8], size: usize, asked: Asked) -> bool {
     mark(area);
     let end = AROUND + size;
     let a = lay(text, &mut area[AROUND..end], asked);
-    if !show_answer(size, a) {
+    if !show_answer(streams, size, a) {
         return false;
     }
-    show_room(&area[0..end + AROUND])
+    show_room(streams, &area[0..end + AROUND])
 }
 
 // Marks every byte.
@@ -116,12 +126,12 @@ fn mark(area: &mut [u8]) {
 }
 
 // A line with the room's size and the answer.
-fn show_answer(size: usize, a: Answer) -> bool {
+fn show_answer(streams: &Streams, size: usize, a: Answer) -> bool {
     let mut line = [0u8; LINE_ROOM];
     let at = text::put_number(&mut line, 0, size);
     let next = text::put(&mut line, at, b'\t');
     let end = put_answer(&mut line, next, a);
-    console::print(console::first(&line, end))
+    console::print(streams, console::first(&line, end))
 }
 
 // Lays `done` and the length, or the refusal, with byte 10 at the end; answers the next place.
@@ -138,9 +148,9 @@ fn put_done(line: &mut [u8], at: usize, n: usize) -> usize {
     text::put(line, b, b'\n')
 }
 
-fn show_room(room: &[u8]) -> bool {
-    if !console::print(room) {
+fn show_room(streams: &Streams, room: &[u8]) -> bool {
+    if !console::print(streams, room) {
         return false;
     }
-    console::print(b"\n")
+    console::print(streams, b"\n")
 }

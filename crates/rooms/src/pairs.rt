@@ -3,6 +3,7 @@
 // and then each room with the marks around it.
 use super::{AREA, AROUND, Asked, BOTH_SIDES, LINE_ROOM, lay, mark, show_room};
 use calls::{Answer, Answers};
+use console::Streams;
 
 // The larger of the two sizes where there is no text.
 const WITHOUT_TEXT: usize = 40;
@@ -11,14 +12,19 @@ const WITHOUT_TEXT: usize = 40;
 const NONE: usize = AREA;
 
 // Answers whether all was written.
-pub(crate) fn pairs(text: &[u8], area: &mut [u8], clean_area: &mut [u8]) -> bool {
+pub(crate) fn pairs(
+    streams: &Streams,
+    text: &[u8],
+    area: &mut [u8],
+    clean_area: &mut [u8],
+) -> bool {
     let a = lay(text, area, Asked::Report);
     let b = lay(text, clean_area, Asked::Clean);
     let sizes = sizes_of(a);
     let clean_sizes = sizes_of(b);
     let mut i = 0;
     while i < 4 {
-        if !row(text, area, clean_area, sizes[i], &clean_sizes) {
+        if !row(streams, text, area, clean_area, sizes[i], &clean_sizes) {
             return false;
         }
         i += 1;
@@ -28,6 +34,7 @@ pub(crate) fn pairs(text: &[u8], area: &mut [u8], clean_area: &mut [u8]) -> bool
 
 // One size of the report's room with each of the clean sheet's; answers whether all was written.
 fn row(
+    streams: &Streams,
     text: &[u8],
     area: &mut [u8],
     clean_area: &mut [u8],
@@ -36,7 +43,7 @@ fn row(
 ) -> bool {
     let mut i = 0;
     while i < 4 {
-        if !pair(text, area, clean_area, size, clean_sizes[i]) {
+        if !pair(streams, text, area, clean_area, size, clean_sizes[i]) {
             return false;
         }
         i += 1;
@@ -67,6 +74,7 @@ fn sizes_around(length: usize) -> [usize; 4] {
 // A pair of rooms with 32 marked bytes on each side of each; none where an area is too small for its room.
 // Answers whether all was written.
 fn pair(
+    streams: &Streams,
     text: &[u8],
     area: &mut [u8],
     clean_area: &mut [u8],
@@ -94,24 +102,24 @@ fn pair(
         &mut area[AROUND..end],
         &mut clean_area[AROUND..clean_end],
     );
-    if !show_answers(size, clean_size, a) {
+    if !show_answers(streams, size, clean_size, a) {
         return false;
     }
-    if !show_room(&area[0..end + AROUND]) {
+    if !show_room(streams, &area[0..end + AROUND]) {
         return false;
     }
-    show_room(&clean_area[0..clean_end + AROUND])
+    show_room(streams, &clean_area[0..clean_end + AROUND])
 }
 
 // A line with both sizes and the answer.
-fn show_answers(size: usize, clean_size: usize, r: Answers) -> bool {
+fn show_answers(streams: &Streams, size: usize, clean_size: usize, r: Answers) -> bool {
     let mut line = [0u8; LINE_ROOM];
     let a = text::put_number(&mut line, 0, size);
     let b = text::put(&mut line, a, b'\t');
     let c = text::put_number(&mut line, b, clean_size);
     let d = text::put(&mut line, c, b'\t');
     let e = put_answers(&mut line, d, r);
-    console::print(console::first(&line, e))
+    console::print(streams, console::first(&line, e))
 }
 
 // Lays `done` and both lengths, or the refusal, with byte 10 at the end; answers the next place.

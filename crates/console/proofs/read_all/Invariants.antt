@@ -4,7 +4,7 @@ use Rattle.console.proofs.Sofar.{Sofar}
 use Rattle.console.proofs.read_all.Given as goal
 
 abbrev pub invariant-loop-turns : goal.invariant-loop-turns
-invariant-loop-turns l = Sofar l.initial.buf l.buf l.at
+invariant-loop-turns g l = Sofar l.initial.buf l.buf l.at
 
 abbrev pub decreases-loop-turns : goal.decreases-loop-turns
-decreases-loop-turns l = l.turns
+decreases-loop-turns g l = l.turns

@@ -4,7 +4,7 @@ use Rattle.console.specs.declared.Line.TheVariants as line
 use Rattle.console.proofs.read_line.Given as goal
 
 abbrev pub invariant-loop-turns : goal.invariant-loop-turns
-invariant-loop-turns l = Lined l.initial.buf l.buf (line.Of l.n)
+invariant-loop-turns g l = Lined l.initial.buf l.buf (line.Of l.n)
 
 abbrev pub decreases-loop-turns : goal.decreases-loop-turns
-decreases-loop-turns l = l.turns
+decreases-loop-turns g l = l.turns
