@@ -1,5 +1,5 @@
 -- What a read answered, by its kind: one law for each return of `piece_of`. Assumes nothing.
-use mathlib.Core.Path.{◌≡◌, refl, sym, ap, ◌∙◌}
+use mathlib.Core.Path.{◌≡◌, refl}
 use Prim.Native.Nat.{ℕ, zero, suc, min}
 use Rattle.std.specs.Prelude.{Result, Ok, Err}
 use Rattle.console.specs.Reading.{piece_of}

@@ -1,4 +1,3 @@
-use Prim.Native.Nat.{◌-◌}
 use native.Mathlib.Omega.{arith}
 use Rattle.console.proofs.Spelt.{no_digit, spelt_none, spelt_low, spelt_high, spelt_more, spelt_all}
 use Rattle.console.proofs.number.Goals as goal
