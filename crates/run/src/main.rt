@@ -62,7 +62,8 @@ fn run_from<F: Files>(files: &F, streams: &Streams, path: &[u8], product: usize)
     run(streams, console::first(&buf, n), product);
 }
 
-// Reads the sheet in the file named. A name that is no text is no file's.
+// Reads the sheet in the file named. Only a name in UTF-8 can be handed to the system, so with any other the
+// sheet cannot be opened.
 fn read_file<F: Files>(files: &F, streams: &Streams, path: &[u8], buf: &mut [u8]) -> Input
     ensures { Held buf.old buf.new result }
 {
