@@ -1,4 +1,5 @@
 pub mod Answer
+pub mod Came
 pub mod Sofar
 pub mod Lined
 pub mod Spelt

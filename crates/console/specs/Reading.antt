@@ -1,6 +1,7 @@
 -- What reading an input leaves in the buffer. Which bytes the system hands over, and how many, nobody can promise; that the number told fits the
 -- buffer, and that nothing behind it is written, can be. Assumes nothing: these are definitions.
-use Rattle.std.specs.Prelude.{◌≡◌, List, [], ◌∷◌, ℕ, zero, suc, ◌≤◌, min, Result, Ok, Err, length, drop}
+use Rattle.std.specs.Prelude.{◌≡◌, List, [], ◌∷◌, ℕ, zero, suc, ◌≤◌, min, Option, Result, Ok, Err, length, drop}
+use Rattle.std.specs.Io.KnownBytes.{Consumes, IsAtEnd}
 use Rattle.text.specs.Text.{Wrote}
 use Rattle.console.specs.declared.Input.{Input}
 use Rattle.console.specs.declared.Input.TheVariants.{Whole, Broken}
@@ -15,11 +16,23 @@ abbrev pub Held : List ℕ → List ℕ → Input → Type 0
 Held before after (Whole n) = (n ≤ length after) × (length after ≡ length before) × (drop n after ≡ drop n before)
 Held before after Broken = length after ≡ length before
 
+-- an input of these bytes, read whole: they were laid from the buffer's begin on as far as it goes, and n is how many of them fit
+abbrev pub Told : List ℕ → List ℕ → List ℕ → Input → Type 0
+Told bytes before after (Whole n) = (at : ℕ) × Wrote before 0 bytes after at × (n ≡ min at (length after))
+Told bytes before after Broken = Unit {0}
+
 -- one read: some bytes were laid from `at` on, or nothing was
 abbrev pub Laid : List ℕ → ℕ → List ℕ → Piece → Type 0
 Laid before at after (Upto next) = (bytes : List ℕ) × Wrote before at bytes after next
 Laid before at after End = after ≡ before
 Laid before at after Failed = after ≡ before
+
+-- the same, where the reader has the bytes `left` before the read and `left'` behind it, if they are known: what it gave is what was laid, and
+-- at the end of the input it has none
+abbrev pub Came : Option (List ℕ) → Option (List ℕ) → List ℕ → ℕ → List ℕ → Piece → Type 0
+Came left left' before at after (Upto next) = (bytes : List ℕ) × Wrote before at bytes after next × Consumes left left' bytes
+Came left left' before at after End = (after ≡ before) × IsAtEnd left
+Came left left' before at after Failed = after ≡ before
 
 -- what is answered for a read into `most` bytes: how many came, 0 at the end of the input, or an error. An error is never taken for the end.
 unfoldable pub piece_of : {E : Type 0} → Result ℕ E → ℕ → Piece

@@ -4,8 +4,8 @@
 // `print` and `tell`, promise nothing.
 #![tactic(auto)]
 
-ghost use Rattle.std.specs.Prelude.{◌≡◌, ◌≤◌, length, take};
-ghost use Rattle.console.specs.Reading.{Held, Laid, Lined, piece_of};
+ghost use Rattle.std.specs.Prelude.{◌≡◌, ◌≤◌, length, take, IfSome};
+ghost use Rattle.console.specs.Reading.{Held, Told, Laid, Came, Lined, piece_of};
 ghost use Rattle.console.specs.Numbers.{number_of};
 
 use fields::Number;
@@ -72,7 +72,8 @@ pub fn read_input(streams: &Streams, buf: &mut [u8]) -> Input
 
 // The same for a file that is open, or whatever else is read.
 pub fn read_from<R: Read>(streams: &Streams, reader: &mut R, buf: &mut [u8]) -> Input
-    ensures { Held buf.old buf.new result }
+    ensures held { Held buf.old buf.new result }
+    ensures told { IfSome (R.remaining reader.old) (λ bytes. Told bytes buf.old buf.new result) }
 {
     let input = read_all(reader, buf);
     if let Input::Broken = input {
@@ -84,7 +85,8 @@ pub fn read_from<R: Read>(streams: &Streams, reader: &mut R, buf: &mut [u8]) -> 
 // The same without the message. A proved loop has to end, and nothing says that an input does: so the
 // loop counts its turns down, from a number that no run uses up.
 fn read_all<R: Read>(reader: &mut R, buf: &mut [u8]) -> Input
-    ensures { Held buf.old buf.new result }
+    ensures held { Held buf.old buf.new result }
+    ensures told { IfSome (R.remaining reader.old) (λ bytes. Told bytes buf.old buf.new result) }
 {
     let mut at = 0;
     let mut turns = u64::MAX;
@@ -109,7 +111,8 @@ fn read_all<R: Read>(reader: &mut R, buf: &mut [u8]) -> Input
 
 // Reads once, and lays what came into buf from the place `at` on, as far as it fits.
 fn read_piece<R: Read>(reader: &mut R, buf: &mut [u8], at: usize) -> Piece
-    ensures { Laid buf.old at buf.new result }
+    ensures laid { Laid buf.old at buf.new result }
+    ensures came { Came (R.remaining reader.old) (R.remaining reader.new) buf.old at buf.new result }
 {
     let mut some = [0u8; AT_ONCE];
     let got = reader.read(&mut some);

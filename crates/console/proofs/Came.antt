@@ -1,0 +1,43 @@
+-- What one read gave, where the reader's bytes are known: what is laid of them is what left the reader, and at the end it had none. Assumes nothing.
+use mathlib.Core.Path.{◌≡◌, refl, subst, ◌∙◌}
+use mathlib.Core.List.{List, []}
+use Prim.Native.Nat.{ℕ, zero, suc, min, ◌<◌}
+use native.Mathlib.Omega.{arith}
+use lib.ListN.{length, take}
+use Rattle.std.specs.Prelude.{Option, None, Some, Result, Ok, Err}
+use Rattle.std.specs.Io.{ReadsAtMost}
+use Rattle.std.specs.Io.KnownBytes.{Consumes, IsAtEnd, ReadConsumes}
+use Rattle.console.specs.Reading.{piece_of}
+use Rattle.console.specs.declared.Piece.{Piece}
+use Rattle.console.specs.declared.Piece.TheVariants.{Upto, End, Failed}
+
+abbrev IsUpto : ℕ → Piece → Type 0
+IsUpto n (Upto m) = n ≡ m
+IsUpto n End = ⊥
+IsUpto n Failed = ⊥
+
+abbrev IsEnd : Piece → Type 0
+IsEnd (Upto m) = ⊥
+IsEnd End = Unit {0}
+IsEnd Failed = ⊥
+
+at_end : (left left' : Option (List ℕ)) → Consumes left left' [] → IsAtEnd left' → IsAtEnd left
+at_end None left' h e = tt
+at_end (Some xs) None h e = absurd h
+at_end (Some xs) (Some ys) h e = h ∙ e
+
+module _ {E : Type 0} (left left' : Option (List ℕ)) (some : List ℕ) where
+  pub some_spent : (r : Result ℕ E) {n : ℕ} → Upto n ≡ piece_of r (length some) → ReadsAtMost r some → ReadConsumes left left' r some → Consumes left left' (take n some)
+  unfolding piece_of
+  some_spent (Err e) {n} is most h = absurd (subst (IsUpto n) is refl)
+  some_spent (Ok zero) {n} is most h = absurd (subst (IsUpto n) is refl)
+  some_spent (Ok (suc k)) {n} is most h =
+      let m : n ≡ min (suc k) (length some) = subst (IsUpto n) is refl in
+      let s : n ≡ suc k = omega (arith, m, most.0) in
+      rw s h.0
+
+  pub none_left : (r : Result ℕ E) → End ≡ piece_of r (length some) → 0 < length some → ReadConsumes left left' r some → IsAtEnd left
+  unfolding piece_of
+  none_left (Err e) is room h = absurd (subst IsEnd is tt)
+  none_left (Ok zero) is room h = at_end left left' h.0 (h.1 refl room)
+  none_left (Ok (suc k)) is room h = absurd (subst IsEnd is tt)
