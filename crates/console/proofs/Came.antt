@@ -1,9 +1,9 @@
 -- What one read gave, where the reader's bytes are known: what is laid of them is what left the reader, and at the end it had none. Assumes nothing.
 use mathlib.Core.Path.{◌≡◌, refl, subst, ◌∙◌}
-use mathlib.Core.List.{List, []}
+use mathlib.Core.List.{List, [], ◌∷◌}
 use Prim.Native.Nat.{ℕ, zero, suc, min, ◌<◌}
 use native.Mathlib.Omega.{arith}
-use lib.ListN.{length, take}
+use lib.ListN.{length, take, get_or}
 use Rattle.std.specs.Prelude.{Option, None, Some, Result, Ok, Err}
 use Rattle.std.specs.Io.{ReadsAtMost}
 use Rattle.std.specs.Io.KnownBytes.{Consumes, IsAtEnd, ReadConsumes}
@@ -41,3 +41,14 @@ module _ {E : Type 0} (left left' : Option (List ℕ)) (some : List ℕ) where
   none_left (Err e) is room h = absurd (subst IsEnd is tt)
   none_left (Ok zero) is room h = at_end left left' h.0 (h.1 refl room)
   none_left (Ok (suc k)) is room h = absurd (subst IsEnd is tt)
+
+-- a read into one place
+pub one_spent : {E : Type 0} (left left' : Option (List ℕ)) (some : List ℕ) (r : Result ℕ E) {n : ℕ} → length some ≡ 1 → Upto n ≡ piece_of r (length some) → ReadsAtMost r some
+    → ReadConsumes left left' r some → Consumes left left' (get_or some 0 0 ∷ [])
+unfolding piece_of
+one_spent left left' some (Err e) {n} one is most h = absurd (subst (IsUpto n) is refl)
+one_spent left left' some (Ok zero) {n} one is most h = absurd (subst (IsUpto n) is refl)
+one_spent left left' [] (Ok (suc k)) one is most h = absurd (omega (arith, one))
+one_spent left left' (b ∷ []) (Ok (suc zero)) one is most h = h.0
+one_spent left left' (b ∷ []) (Ok (suc (suc k))) one is most h = absurd (omega (arith, most.0))
+one_spent left left' (b ∷ c ∷ bs) (Ok (suc k)) one is most h = absurd (omega (arith, one))

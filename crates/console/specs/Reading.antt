@@ -1,12 +1,14 @@
 -- What reading an input leaves in the buffer. Which bytes the system hands over, and how many, nobody can promise; that the number told fits the
 -- buffer, and that nothing behind it is written, can be. Assumes nothing: these are definitions.
-use Rattle.std.specs.Prelude.{◌≡◌, List, [], ◌∷◌, ℕ, zero, suc, ◌≤◌, min, Option, Result, Ok, Err, length, drop}
+use Rattle.std.specs.Prelude.{◌≡◌, List, [], ◌∷◌, ◌++◌, ℕ, zero, suc, ◌≤◌, min, ◌⊎◌, Option, Some, Result, Ok, Err, length, drop}
 use Rattle.std.specs.Io.KnownBytes.{Consumes, IsAtEnd}
 use Rattle.text.specs.Text.{Wrote}
 use Rattle.console.specs.declared.Input.{Input}
 use Rattle.console.specs.declared.Input.TheVariants.{Whole, Broken}
 use Rattle.console.specs.declared.Line.{Line}
 use Rattle.console.specs.declared.Line.TheVariants as line
+use Rattle.console.specs.declared.Next.{Next}
+use Rattle.console.specs.declared.Next.TheVariants as next
 use Rattle.console.specs.declared.Piece.{Piece}
 use Rattle.console.specs.declared.Piece.TheVariants.{Upto, End, Failed}
 
@@ -52,3 +54,16 @@ abbrev pub Lined : List ℕ → List ℕ → Line → Type 0
 Lined before after (line.Of n) = (bytes : List ℕ) × Unended bytes × Wrote before 0 bytes after n
 Lined before after line.End = after ≡ before
 Lined before after line.Failed = length after ≡ length before
+
+-- one byte, where the reader's bytes are known: it was the reader's next, and at the end of the input there was none
+abbrev pub CameNext : Option (List ℕ) → Option (List ℕ) → Next → Type 0
+CameNext left left' (next.Byte b) = Consumes left left' (b ∷ [])
+CameNext left left' next.End = IsAtEnd left
+CameNext left left' next.Failed = Unit {0}
+
+-- a line of an input of these bytes, of which the reader has `left` behind it: the bytes before the first 10 are laid, and this is taken too; or all
+-- bytes are, if none is 10. No line is told only where there is no byte
+abbrev pub ToldLine : List ℕ → Option (List ℕ) → List ℕ → List ℕ → Line → Type 0
+ToldLine bytes left before after (line.Of n) = (text : List ℕ) × Unended text × Wrote before 0 text after n × (Consumes (Some bytes) left (text ++ 10 ∷ []) ⊎ bytes ≡ text)
+ToldLine bytes left before after line.End = bytes ≡ []
+ToldLine bytes left before after line.Failed = Unit {0}

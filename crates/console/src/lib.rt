@@ -5,7 +5,7 @@
 #![tactic(auto)]
 
 ghost use Rattle.std.specs.Prelude.{◌≡◌, ◌≤◌, length, take, IfSome};
-ghost use Rattle.console.specs.Reading.{Held, Told, Laid, Came, Lined, piece_of};
+ghost use Rattle.console.specs.Reading.{Held, Told, Laid, Came, Lined, CameNext, ToldLine, piece_of};
 ghost use Rattle.console.specs.Numbers.{number_of};
 
 use fields::Number;
@@ -140,7 +140,9 @@ fn piece_of(got: io::Result<usize>, some: &[u8]) -> Piece
 // Reads one line, byte by byte, so that nothing behind it is taken. As much of it as fits is laid at the start
 // of buf, its end left out; the last line may lack its end.
 pub fn read_line<R: Read>(reader: &mut R, buf: &mut [u8]) -> Line
-    ensures { Lined buf.old buf.new result }
+    ensures lined { Lined buf.old buf.new result }
+    ensures told { IfSome (R.remaining reader.old)
+        (λ bytes. ToldLine bytes (R.remaining reader.new) buf.old buf.new result) }
 {
     let mut n = 0;
     let mut turns = u64::MAX;
@@ -168,7 +170,9 @@ pub fn read_line<R: Read>(reader: &mut R, buf: &mut [u8]) -> Line
     Line::Failed
 }
 
-fn read_byte<R: Read>(reader: &mut R) -> Next {
+fn read_byte<R: Read>(reader: &mut R) -> Next
+    ensures { CameNext (R.remaining reader.old) (R.remaining reader.new) result }
+{
     let mut byte = [0u8; 1];
     let got = reader.read(&mut byte);
     let piece = piece_of(got, &byte);
