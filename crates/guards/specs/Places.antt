@@ -21,6 +21,6 @@ pub record Leftmost (n : List (List ℕ)) (x : List ℕ) (e : ℕ) (from : List 
   -- and where the field ends too soon, that is 5
   pub ended : from ≡ [] → e ≡ 5
 
--- leftmost-faulty: the place is the leftmost faulty byte.
+-- leftmost_faulty: the place is the leftmost faulty byte.
 abbrev pub LeftmostFaulty : Type 0
 LeftmostFaulty = (n : List (List ℕ)) → GoodNames n → (x : List ℕ) (e : ℕ) (from : List ℕ) → read_whole n x ≡ faulty e from → Leftmost n x e from

@@ -9,8 +9,4 @@ returns c =
     c.put.ensures
 
 pub shape_of-room : goal.shape_of-room
-shape_of-room c =
-    let line =
-    move_line_lem _ c.put_bytes-a.ensures c.put_number-b.ensures c.put-c.ensures (wrote_as c.put_bytes-d.ensures c.piece.ensures) c.put-e.ensures c.put_number-f.ensures c.put-g.ensures c.put_made-h.ensures
-    c.put.ensures in
-    wrote_long line.2
+shape_of-room c = wrote_long (returns c).2

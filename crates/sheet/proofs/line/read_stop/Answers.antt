@@ -1,9 +1,12 @@
 -- `line::read_stop` meets its contract: a law of `Moves` for each return. Assumes nothing.
+use Prim.Native.Nat.{◌<◌}
 use native.Mathlib.Omega.{arith}
+use lib.ListN.{length}
 use Rattle.fields.specs.Bytes.{part}
 use Rattle.sheet.proofs.Lines.{refused_within}
 use Rattle.sheet.proofs.Moves.{parted_of, second_fits, stop_wrong, stop_state, stop_refused, stop_repeat, stop_never, stop_kept}
 use Rattle.sheet.proofs.line.read_stop.Goals as goal
+use Rattle.sheet.proofs.line.read_stop.Goals.{Else-k-ge-MOST_STOPS}
 
 pub returns-in_default : goal.returns-in_default
 returns-in_default c = λ v m g seen st so. stop_wrong _ _ st c.in_default.is c.cut_two-cut.ensures c.refuse.ensures
@@ -80,16 +83,23 @@ returns-then-k-ge-MOST_STOPS c =
     stop_never _ _ st c.in-Parted.is c.cut_two-cut.ensures c.in-Of.is c.read_state-q.ensures c.read_whole-read.result _ so c.read_whole-read.ensures
     c.in-Upto.is c.has_stop.ensures c.if-has_stop.false c.if-k-ge-MOST_STOPS.true
 
+-- both tables have a row that is free
+row_free : (c : Else-k-ge-MOST_STOPS) → (c.args.c.stops < length c.args.stops.now) × (c.args.c.stops < length c.args.stop_guards.now)
+row_free c =
+    let few = c.if-k-ge-MOST_STOPS.false in
+    let p = c.requires in
+    (omega (arith, p.stops_within, p.tables_suffice.0), omega (arith, p.stops_within, p.tables_suffice.1))
+
 pub bounds-stops-k : goal.bounds-stops-k
-bounds-stops-k c = let few = c.if-k-ge-MOST_STOPS.false in let p = c.requires in omega (arith, p.stops_within, p.tables_suffice.0)
+bounds-stops-k c = (row_free (goal.at.bounds-stops-k c).Else-k-ge-MOST_STOPS).0
 
 pub bounds-stop_guards-k : goal.bounds-stop_guards-k
-bounds-stop_guards-k c = let few = c.if-k-ge-MOST_STOPS.false in let p = c.requires in omega (arith, p.stops_within, p.tables_suffice.1)
+bounds-stop_guards-k c = (row_free (goal.at.bounds-stop_guards-k c).Else-k-ge-MOST_STOPS).1
 
 pub returns : goal.returns
 unfolding part
 returns c =
     λ v m g seen st so.
+    let free = row_free (goal.at.returns c).Else-k-ge-MOST_STOPS in
     stop_kept _ _ st c.in-Parted.is c.cut_two-cut.ensures c.in-Of.is c.read_state-q.ensures c.read_whole-read.result _ so c.read_whole-read.ensures
-    c.in-Upto.is c.has_stop.ensures c.if-has_stop.false (let few = c.if-k-ge-MOST_STOPS.false in let p = c.requires in omega (arith, p.stops_within, p.tables_suffice.0))
-    (let few = c.if-k-ge-MOST_STOPS.false in let p = c.requires in omega (arith, p.stops_within, p.tables_suffice.1)) c.with_stop-next.ensures
+    c.in-Upto.is c.has_stop.ensures c.if-has_stop.false free.0 free.1 c.with_stop-next.ensures
