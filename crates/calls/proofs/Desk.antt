@@ -1,5 +1,6 @@
 -- What stands on the desk once a sheet is read and spread, and what runs over it leave. A run without a room and a run in the room lay the same text,
 -- because only one text is a sheet's report, and only one its clean sheet; and no report is longer than 9,545 bytes. Assumes nothing.
+use Rattle.std.proofs.Common.{Err}
 use mathlib.Core.Path.{◌≡◌, refl, sym, ap, ◌∙◌}
 use mathlib.Core.Bool.{Bool, true, false, not, false≢true}
 use mathlib.Core.List.{List, [], ◌++◌}
@@ -11,6 +12,7 @@ use lib.Dec.{leb}
 use lib.ListN.{length, get_or, drop}
 use Rattle.text.specs.Text.{limit, Wrote}
 use Rattle.text.proofs.Laws.{wrote_whole, wrote_end, dry_fits, dry_too_long}
+use Rattle.refusals.specs.declared.Reason.TheVariants as because
 use Rattle.refusals.specs.declared.Refusal.{Refusal}
 use Rattle.refusals.specs.Refusal.{refusal}
 use Rattle.sheet.specs.declared.Counts.{Counts}
@@ -33,7 +35,6 @@ use Rattle.normal.proofs.Unique.{is_clean_unique}
 use Rattle.cleaning.specs.Laying.{Outs, Prepared}
 use Rattle.cleaning.proofs.Made.{rows_there}
 use Rattle.cleaning.proofs.Calls.{prepared}
-use Rattle.calls.specs.declared.Answers.TheVariants as two
 use Rattle.calls.specs.Promise.{Filled, TooLong, Fits, clean_most}
 use Rattle.calls.specs.Inside.{Comes, Long, Longer, Fitting, BothFilling, Laid}
 
@@ -78,7 +79,7 @@ is_long {l' = l'} (vs, is, w) = record { text = vs; is = is; none = l'; wrote = 
 
 -- it told the length n of the text that has the property: the text is longer than m, or it fits, and so does any such text where there is only one
 module _ {R : List ℕ → Type 0} {n : ℕ} (first : Long R n) {m : ℕ} (b : m < limit) where
-  pub too_long : (line : ℕ) → m < n → TooLong R m line (refusal 11 line 0)
+  pub too_long : (line : ℕ) → m < n → TooLong R m line (refusal because.RoomTooShort line 0)
   too_long line longer = record { eleven = refl; text = first.text; is = first.is; longer = dry_too_long first.wrote longer b }
 
   pub fits : n ≤ m → Fits R m
@@ -109,17 +110,17 @@ pub fit : {R : List ℕ → Type 0} {m : ℕ} {b : Bool} → Fitting R m b → n
 fit {b = true} f e = f.is
 fit {b = false} f e = absurd (false≢true (sym e))
 
-pub unfit : {R : List ℕ → Type 0} {m : ℕ} {b : Bool} → Fitting R m b → not b ≡ true → (line : ℕ) → TooLong R m line (refusal 11 line 0)
+pub unfit : {R : List ℕ → Type 0} {m : ℕ} {b : Bool} → Fitting R m b → not b ≡ true → (line : ℕ) → TooLong R m line (refusal because.RoomTooShort line 0)
 unfit {b = true} f e = absurd (false≢true e)
 unfit {b = false} f e = f.is
 
 -- ---- both texts, each in its room
 
-pub report_long : {r : Sheet} {room second : List ℕ} {q : Refusal} → TooLong (IsReport (Before Plainest) r) (length room) 1 q → BothFilling r room room second second (two.Refused q)
+pub report_long : {r : Sheet} {room second : List ℕ} {q : Refusal} → TooLong (IsReport (Before Plainest) r) (length room) 1 q → BothFilling r room room second second (Err q)
 report_long h = record { is = (refl, refl, inl h) }
 
 -- the clean sheet does not fit, and the line goes by the report
 pub both_long : {r : Sheet} {room second : List ℕ} {line : ℕ} → Longer (IsReport (Before Plainest) r) (length room) line
-    → ((line : ℕ) → TooLong (IsClean r) (clean_most second) line (refusal 11 line 0)) → BothFilling r room room second second (two.Refused (refusal 11 line 0))
+    → ((line : ℕ) → TooLong (IsClean r) (clean_most second) line (refusal because.RoomTooShort line 0)) → BothFilling r room room second second (Err (refusal because.RoomTooShort line 0))
 both_long (inl (e, long)) clean = rw e (record { is = (refl, refl, inl long) })
 both_long (inr (e, fit)) clean = rw e (record { is = (refl, refl, inr (fit, clean 2)) })

@@ -1,5 +1,6 @@
 -- What the calls promise determines their answers and the rooms: reading is a function, and only one text is a call's result. One law serves every call
 -- with one room. Assumes nothing.
+use Rattle.std.proofs.Common.{Result, Ok, Err}
 use mathlib.Core.Path.{◌≡◌, sym, ap, ◌∙◌}
 use mathlib.Core.List.{List}
 use mathlib.Core.Logic.{◌⊎◌, inl, inr}
@@ -17,10 +18,6 @@ use Rattle.sheet.proofs.Accepted.{kept_refused}
 use Rattle.reporting.specs.Report.{IsReport}
 use Rattle.reporting.proofs.Determined.{report_determined}
 use Rattle.normal.specs.Clean.{IsClean}
-use Rattle.calls.specs.declared.Answer.{Answer}
-use Rattle.calls.specs.declared.Answer.TheVariants as one
-use Rattle.calls.specs.declared.Answers.{Answers}
-use Rattle.calls.specs.declared.Answers.TheVariants as two
 use Rattle.calls.specs.Promise.{Filled, TooLong, Fits, OneText, nothing, ReportPromise, clean_most, CleanPromise, EitherTooLong, BothPromise}
 use Rattle.calls.proofs.Desk.{one_clean}
 
@@ -67,17 +64,17 @@ module _ (No : Sheet → Refusal → Type 0) (Is : Sheet → List ℕ → Type 0
   refused_once (inr (r, a, x)) (inr (t, b, y)) = refused_one x (rw (kept_one s b a) at y)
 
   -- any two answers with their rooms that meet the promise are equal
-  pub one_text_determined : (x y : List ℕ) (a b : Answer) → OneText No Is most s room x a → OneText No Is most s room y b → (a ≡ b) × (x ≡ y)
-  one_text_determined x y (one.Done m) (one.Done n) (r, a, p) (q, b, z) = let (k, e) = filled_once (one-text _) p (rw (kept_one s b a) at z) in (ap one.Done k, e)
-  one_text_determined x y (one.Done m) (one.Refused q) (r, a, p) z = absurd (done_refused a p z.1)
-  one_text_determined x y (one.Refused p) (one.Done n) z (r, a, q) = absurd (done_refused a q z.1)
-  one_text_determined x y (one.Refused p) (one.Refused q) z w = (ap one.Refused (refused_once z.1 w.1), z.0 ∙ sym w.0)
+  pub one_text_determined : (x y : List ℕ) (a b : Result ℕ Refusal) → OneText No Is most s room x a → OneText No Is most s room y b → (a ≡ b) × (x ≡ y)
+  one_text_determined x y (Ok m) (Ok n) (r, a, p) (q, b, z) = let (k, e) = filled_once (one-text _) p (rw (kept_one s b a) at z) in (ap Ok k, e)
+  one_text_determined x y (Ok m) (Err q) (r, a, p) z = absurd (done_refused a p z.1)
+  one_text_determined x y (Err p) (Ok n) z (r, a, q) = absurd (done_refused a q z.1)
+  one_text_determined x y (Err p) (Err q) z w = (ap Err (refused_once z.1 w.1), z.0 ∙ sym w.0)
 
-pub report_promise_determined : (o : Order) (s room x y : List ℕ) (a b : Answer) → ReportPromise o s room x a → ReportPromise o s room y b → (a ≡ b) × (x ≡ y)
+pub report_promise_determined : (o : Order) (s room x y : List ℕ) (a b : Result ℕ Refusal) → ReportPromise o s room x a → ReportPromise o s room y b → (a ≡ b) × (x ≡ y)
 report_promise_determined o s room x y a b p q =
     one_text_determined nothing (IsReport (Before o)) (length room) (λ r x y i j. report_determined (before_one o) x y i j) (λ r d e z w. absurd z) (λ r e x z i. z) s room x y a b p q
 
-pub clean_promise_determined : (s room x y : List ℕ) (a b : Answer) → CleanPromise s room x a → CleanPromise s room y b → (a ≡ b) × (x ≡ y)
+pub clean_promise_determined : (s room x y : List ℕ) (a b : Result ℕ Refusal) → CleanPromise s room x a → CleanPromise s room y b → (a ≡ b) × (x ≡ y)
 clean_promise_determined s room x y a b p q =
     one_text_determined nothing IsClean (clean_most room) (λ r x y i j. one_clean x y i j) (λ r d e z w. absurd z) (λ r e x z i. z) s room x y a b p q
 
@@ -111,11 +108,11 @@ module _ (s room clean : List ℕ) where
   both_refused_once (inr (r, a, x)) (inl y) = absurd (kept_refused s a y)
   both_refused_once (inr (r, a, x)) (inr (t, b, y)) = either_one x (rw (kept_one s b a) at y)
 
-  pub both_promise_determined : (x y u v : List ℕ) (a b : Answers) → BothPromise s room x clean u a → BothPromise s room y clean v b → (a ≡ b) × (x ≡ y) × (u ≡ v)
-  both_promise_determined x y u v (two.Done m k) (two.Done n j) (r, a, p, c) (q, b, z, w) =
+  pub both_promise_determined : (x y u v : List ℕ) (a b : Result (ℕ × ℕ) Refusal) → BothPromise s room x clean u a → BothPromise s room y clean v b → (a ≡ b) × (x ≡ y) × (u ≡ v)
+  both_promise_determined x y u v (Ok (m, k)) (Ok (n, j)) (r, a, p, c) (q, b, z, w) =
       let (e, f) = filled_once plainest_determined p (rw (kept_one s b a) at z) in
       let (g, h) = filled_once one_clean c (rw (kept_one s b a) at w) in
-      (ap (λ (i : ℕ). two.Done i k) e ∙ ap (λ (i : ℕ). two.Done n i) g, f, h)
-  both_promise_determined x y u v (two.Done m k) (two.Refused q) (r, a, p, c) z = absurd (both_refused a p c z.2)
-  both_promise_determined x y u v (two.Refused q) (two.Done n j) z (r, a, p, c) = absurd (both_refused a p c z.2)
-  both_promise_determined x y u v (two.Refused p) (two.Refused q) z w = (ap two.Refused (both_refused_once z.2 w.2), z.0 ∙ sym w.0, z.1 ∙ sym w.1)
+      (ap (λ (i : ℕ). Ok (i, k)) e ∙ ap (λ (i : ℕ). Ok (n, i)) g, f, h)
+  both_promise_determined x y u v (Ok (m, k)) (Err q) (r, a, p, c) z = absurd (both_refused a p c z.2)
+  both_promise_determined x y u v (Err q) (Ok (n, j)) z (r, a, p, c) = absurd (both_refused a p c z.2)
+  both_promise_determined x y u v (Err p) (Err q) z w = (ap Err (both_refused_once z.2 w.2), z.0 ∙ sym w.0, z.1 ∙ sym w.1)

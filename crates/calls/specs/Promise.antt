@@ -1,5 +1,6 @@
 -- What the calls promise, for every sheet and every room. Assumes nothing: these are definitions.
-use Rattle.std.specs.Prelude.{List, ◌++◌, ◌⊎◌, ◌≡◌, ℕ, ◌≤◌, ◌<◌, min, length, drop}
+use Rattle.std.specs.Prelude.{List, ◌++◌, ◌⊎◌, ◌≡◌, ℕ, ◌≤◌, ◌<◌, min, length, drop, Result, Ok, Err}
+use Rattle.refusals.specs.declared.Reason.TheVariants as because
 use Rattle.refusals.specs.declared.Refusal.{Refusal}
 use Rattle.refusals.specs.Refusal.{refusal}
 use Rattle.products.specs.declared.Order.{Order}
@@ -9,10 +10,6 @@ use Rattle.sheet.specs.Sheet.{Sheet}
 use Rattle.sheet.specs.Reading.{kept, refused, read_sheet}
 use Rattle.reporting.specs.Report.{IsReport}
 use Rattle.normal.specs.Clean.{IsClean}
-use Rattle.calls.specs.declared.Answer.{Answer}
-use Rattle.calls.specs.declared.Answer.TheVariants as one
-use Rattle.calls.specs.declared.Answers.{Answers}
-use Rattle.calls.specs.declared.Answers.TheVariants as two
 
 -- ---- a text and its room: `Is` says which text is meant, and `most` how long it may be
 
@@ -26,7 +23,7 @@ pub record Filled (Is : List ℕ → Type 0) (most : ℕ) (room room' : List ℕ
 
 -- "11: result longer than the room", with the line that the call gives it
 pub record TooLong (Is : List ℕ → Type 0) (most line : ℕ) (q : Refusal) : Type 0 where
-  pub eleven : q ≡ refusal 11 line 0
+  pub eleven : q ≡ refusal because.RoomTooShort line 0
   pub text : List ℕ
   pub is : Is text
   pub longer : most < length text
@@ -38,9 +35,9 @@ pub record Fits (Is : List ℕ → Type 0) (most : ℕ) : Type 0 where
 
 -- ---- a call with one room: done; or refused, and "The output room keeps every byte". It is refused by the table as the sheet is read; by what the call
 -- itself refuses of an accepted sheet (No); or else by 11.
-abbrev pub OneText : (Sheet → Refusal → Type 0) → (Sheet → List ℕ → Type 0) → ℕ → List ℕ → List ℕ → List ℕ → Answer → Type 0
-OneText No Is most s room room' (one.Done n) = (r : Sheet) × (read_sheet s ≡ kept r) × Filled (Is r) most room room' n
-OneText No Is most s room room' (one.Refused q) =
+abbrev pub OneText : (Sheet → Refusal → Type 0) → (Sheet → List ℕ → Type 0) → ℕ → List ℕ → List ℕ → List ℕ → Result ℕ Refusal → Type 0
+OneText No Is most s room room' (Ok n) = (r : Sheet) × (read_sheet s ≡ kept r) × Filled (Is r) most room room' n
+OneText No Is most s room room' (Err q) =
     (room' ≡ room) × ((read_sheet s ≡ refused q) ⊎ ((r : Sheet) × (read_sheet s ≡ kept r) × (No r q ⊎ TooLong (Is r) most 0 q)))
 
 -- of an accepted sheet nothing is refused but by 11
@@ -49,14 +46,14 @@ nothing r q = ⊥
 
 -- "Both are shown from one statement over the order used": `report` promises it of the plainest product, "with the fewest features, then the smallest
 -- number", and `report_by_number` of the smallest number, "by a call of its own"
-abbrev pub ReportPromise : Order → List ℕ → List ℕ → List ℕ → Answer → Type 0
+abbrev pub ReportPromise : Order → List ℕ → List ℕ → List ℕ → Result ℕ Refusal → Type 0
 ReportPromise o s room room' a = OneText nothing (IsReport (Before o)) (length room) s room room' a
 
 -- "for `clean` also longer than 65,536"
 abbrev pub clean_most : List ℕ → ℕ
 clean_most room = min (length room) 65536
 
-abbrev pub CleanPromise : List ℕ → List ℕ → List ℕ → Answer → Type 0
+abbrev pub CleanPromise : List ℕ → List ℕ → List ℕ → Result ℕ Refusal → Type 0
 CleanPromise s room room' a = OneText nothing IsClean (clean_most room) s room room' a
 
 -- ---- "One call instead of two", with two rooms: "If either result doesn't fit, neither room changes. Both texts equal those of the single calls, the
@@ -67,8 +64,8 @@ abbrev pub EitherTooLong : Sheet → List ℕ → List ℕ → Refusal → Type 
 EitherTooLong r room clean q =
     TooLong (IsReport (Before Plainest) r) (length room) 1 q ⊎ (Fits (IsReport (Before Plainest) r) (length room) × TooLong (IsClean r) (clean_most clean) 2 q)
 
-abbrev pub BothPromise : List ℕ → List ℕ → List ℕ → List ℕ → List ℕ → Answers → Type 0
-BothPromise s room room' clean clean' (two.Done n m) =
+abbrev pub BothPromise : List ℕ → List ℕ → List ℕ → List ℕ → List ℕ → Result (ℕ × ℕ) Refusal → Type 0
+BothPromise s room room' clean clean' (Ok (n, m)) =
     (r : Sheet) × (read_sheet s ≡ kept r) × Filled (IsReport (Before Plainest) r) (length room) room room' n × Filled (IsClean r) (clean_most clean) clean clean' m
-BothPromise s room room' clean clean' (two.Refused q) =
+BothPromise s room room' clean clean' (Err q) =
     (room' ≡ room) × (clean' ≡ clean) × ((read_sheet s ≡ refused q) ⊎ ((r : Sheet) × (read_sheet s ≡ kept r) × EitherTooLong r room clean q))

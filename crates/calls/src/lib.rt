@@ -10,32 +10,19 @@ ghost use Rattle.sheet.specs.Tables.{tables, blank_tables, StandsFor};
 ghost use Rattle.family.specs.Rounds.{to_at, highest_to};
 ghost use Rattle.reporting.specs.Report.{IsReport};
 ghost use Rattle.normal.specs.Clean.{IsClean};
-ghost use Rattle.cleaning.specs.Laying.{Outs, RowsWithin, Prepared};
+ghost use Rattle.cleaning.specs.Laying.{OutsOn, RowsWithin, PreparedOn};
 ghost use Rattle.calls.specs.Promise.{clean_most, ReportPromise, CleanPromise, BothPromise};
 ghost use Rattle.calls.specs.Shown.{Put};
-ghost use Rattle.calls.specs.Inside.{first_of, Served, Comes, Long, Longer, Fitting, Filling, BothFilling, Left, Laid};
+ghost use Rattle.calls.specs.Inside.{first_of, Served, Comes, Long, Longer, Fitting, Filling, BothFilling, Left, StandsOn, LaidOn};
 
 use cleaning::put_clean;
+use desk::{Desk, SheetTables};
 use ordering::order_moves;
 use products::Order;
-use refusals::Refusal;
+use refusals::{Reason, Refusal, refuse};
 use reporting::put_report;
-use sheet::{Counts, SheetRead, read_blank};
+use sheet::read_blank;
 use tables::{MOST_BYTES, MOST_MOVES, MOST_STOPS};
-
-// The answer of a call with one room: done with the text's length, or refused.
-#[derive(Clone, Copy)]
-pub enum Answer {
-    Done(usize),
-    Refused(Refusal),
-}
-
-// The answer of a call with two: done with both lengths, or refused.
-#[derive(Clone, Copy)]
-pub enum Answers {
-    Done(usize, usize),
-    Refused(Refusal),
-}
 
 // What is asked for of a sheet: the report in an order, the clean sheet, or both, the report in the default
 // order.
@@ -44,6 +31,13 @@ pub enum Job {
     Report(Order),
     Clean,
     Both,
+}
+
+// A desk whose out sets are right for the products that reach each state.
+#[derive(Clone, Copy)]
+struct SpreadDesk<'a> {
+    desk: Desk<'a>,
+    ghost outs: { OutsOn desk },
 }
 
 // The sizes of tables: how long a text may be, and how many rows there are for its move and stop lines. A
@@ -61,6 +55,8 @@ const MIDDLE_MOVES: usize = 90;
 // Where no product reaches a state from here on, the states' sets have so many rows.
 const LOW: usize = 8;
 
+const MOST_STATES: usize = 64;
+
 // No report is longer; that is proved.
 const REPORT_MOST: usize = 9545;
 
@@ -68,21 +64,21 @@ const REPORT_MOST: usize = 9545;
 const DEFAULT_ORDER: Order = Order::Plainest;
 
 // Lays the report of the sheet `text` into `room`; each of its products is the plainest.
-pub fn report(text: &[u8], room: &mut [u8]) -> Answer
+pub fn report(text: &[u8], room: &mut [u8]) -> Result<usize, Refusal>
     ensures { ReportPromise Order.Plainest text.now room.old room.new result }
 {
     report_in(DEFAULT_ORDER, text, room)
 }
 
 // The same; each of its products is the one with the smallest number.
-pub fn report_by_number(text: &[u8], room: &mut [u8]) -> Answer
+pub fn report_by_number(text: &[u8], room: &mut [u8]) -> Result<usize, Refusal>
     ensures { ReportPromise Order.ByNumber text.now room.old room.new result }
 {
     report_in(Order::ByNumber, text, room)
 }
 
 // Lays the report with the first products in the order.
-fn report_in(order: Order, text: &[u8], room: &mut [u8]) -> Answer
+fn report_in(order: Order, text: &[u8], room: &mut [u8]) -> Result<usize, Refusal>
     ensures { ReportPromise order text.now room.old room.new result }
 {
     let mut none = [0u8; 0];
@@ -91,7 +87,7 @@ fn report_in(order: Order, text: &[u8], room: &mut [u8]) -> Answer
 }
 
 // Lays the clean form of the sheet `text` into `room`.
-pub fn clean(text: &[u8], room: &mut [u8]) -> Answer
+pub fn clean(text: &[u8], room: &mut [u8]) -> Result<usize, Refusal>
     ensures { CleanPromise text.now room.old room.new result }
 {
     let mut none = [0u8; 0];
@@ -100,7 +96,11 @@ pub fn clean(text: &[u8], room: &mut [u8]) -> Answer
 }
 
 // Lays both, each into its room; the sheet is read once and spread once.
-pub fn report_and_clean(text: &[u8], room: &mut [u8], clean_room: &mut [u8]) -> Answers
+pub fn report_and_clean(
+    text: &[u8],
+    room: &mut [u8],
+    clean_room: &mut [u8],
+) -> Result<(usize, usize), Refusal>
     ensures { BothPromise text.now room.old room.new clean_room.old clean_room.new result }
 {
     serve(Job::Both, text, room, clean_room)
@@ -108,115 +108,62 @@ pub fn report_and_clean(text: &[u8], room: &mut [u8], clean_room: &mut [u8]) -> 
 
 // Makes a room that a call answered for ready to be printed: where the call refused, the line of the
 // refusal is laid over the room's start. Answers how many bytes are to be printed.
-pub fn put_answer(a: Answer, room: &mut [u8]) -> usize
+pub fn put_answer(a: Result<usize, Refusal>, room: &mut [u8]) -> usize
     ensures { Put room.old room.new result a }
 {
     match a {
-        Answer::Done(n) => n,
-        Answer::Refused(q) => refusals::put_refusal(room, 0, q),
+        Ok(n) => n,
+        Err(q) => refusals::put_refusal(room, 0, q),
     }
 }
 
 // The answer of a job with one room.
-fn first_of(a: Answers) -> Answer
+fn first_of(a: Result<(usize, usize), Refusal>) -> Result<usize, Refusal>
     ensures { result ≡ first_of a }
 {
-    match a {
-        Answers::Done(n, _) => Answer::Done(n),
-        Answers::Refused(q) => Answer::Refused(q),
-    }
-}
-
-fn refuse(number: u8, line: usize) -> Answers
-    ensures { result ≡ Answers.Refused (refusal number line 0) }
-{
-    Answers::Refused(Refusal {
-        number,
-        line,
-        place: 0,
-    })
-}
-
-// The reader's refusal, unchanged.
-fn pass_up(r: SheetRead) -> Answers
-    ensures { (q : Refusal) → r ≡ SheetRead.Refused q → result ≡ Answers.Refused q }
-{
-    match r {
-        SheetRead::Refused(q) => Answers::Refused(q),
-        SheetRead::Kept(_) => refuse(0, 0),
-    }
+    let (n, _) = a?;
+    Ok(n)
 }
 
 // Does the job by way of tables whose size goes by the text's length. What that length alone refuses needs
 // no tables.
-fn serve(job: Job, text: &[u8], room: &mut [u8], second: &mut [u8]) -> Answers
+fn serve(
+    job: Job,
+    text: &[u8],
+    room: &mut [u8],
+    second: &mut [u8],
+) -> Result<(usize, usize), Refusal>
     ensures { Served job text.now room.old room.new second.old second.new result }
 {
     if MOST_BYTES < text.len() {
-        return refuse(1, 0);
+        return refuse(Reason::SheetTooLong, 0, 0);
     }
     if text.len() == 0 {
-        return refuse(2, 0);
+        return refuse(Reason::NoLastLineEnd, 0, 0);
     }
     if text.len() <= SMALL_TEXT {
-        return serve_small(job, text, room, second);
+        return serve_in::<SMALL_MOVES, SMALL_STOPS>(job, text, room, second);
     }
     if text.len() <= MIDDLE_TEXT {
-        return serve_middle(job, text, room, second);
+        return serve_in::<MIDDLE_MOVES, MOST_STOPS>(job, text, room, second);
     }
-    serve_large(job, text, room, second)
+    serve_in::<MOST_MOVES, MOST_STOPS>(job, text, room, second)
 }
 
-// The same for a small text.
-fn serve_small(job: Job, text: &[u8], room: &mut [u8], second: &mut [u8]) -> Answers
-    requires { length text.now ≤ 169 }
+// The same by way of tables that have so many rows, enough for the text.
+fn serve_in<const MOVES: usize, const STOPS: usize>(
+    job: Job,
+    text: &[u8],
+    room: &mut [u8],
+    second: &mut [u8],
+) -> Result<(usize, usize), Refusal>
+    requires { (MOVES ≤ 256) × (STOPS ≤ 64) × (min (length text.now) 3328 ≤ 13 * MOVES) × (min (length text.now) 576 ≤ 9 * STOPS) }
     ensures { Served job text.now room.old room.new second.old second.new result }
 {
-    let mut moves = [[0usize; 5]; SMALL_MOVES];
-    let mut move_guards = [[0u64; 16]; SMALL_MOVES];
-    let mut stops = [[0usize; 2]; SMALL_STOPS];
-    let mut stop_guards = [[0u64; 16]; SMALL_STOPS];
-    serve_by(
-        job,
-        text,
-        room,
-        second,
-        &mut moves,
-        &mut move_guards,
-        &mut stops,
-        &mut stop_guards,
-    )
-}
-
-// The same for a text of middle length.
-fn serve_middle(job: Job, text: &[u8], room: &mut [u8], second: &mut [u8]) -> Answers
-    requires { length text.now ≤ 1170 }
-    ensures { Served job text.now room.old room.new second.old second.new result }
-{
-    let mut moves = [[0usize; 5]; MIDDLE_MOVES];
-    let mut move_guards = [[0u64; 16]; MIDDLE_MOVES];
-    let mut stops = [[0usize; 2]; MOST_STOPS];
-    let mut stop_guards = [[0u64; 16]; MOST_STOPS];
-    serve_by(
-        job,
-        text,
-        room,
-        second,
-        &mut moves,
-        &mut move_guards,
-        &mut stops,
-        &mut stop_guards,
-    )
-}
-
-// The same for every text.
-fn serve_large(job: Job, text: &[u8], room: &mut [u8], second: &mut [u8]) -> Answers
-    ensures { Served job text.now room.old room.new second.old second.new result }
-{
-    let mut moves = [[0usize; 5]; MOST_MOVES];
-    let mut move_guards = [[0u64; 16]; MOST_MOVES];
-    let mut stops = [[0usize; 2]; MOST_STOPS];
-    let mut stop_guards = [[0u64; 16]; MOST_STOPS];
+    let mut moves = [[0usize; 5]; MOVES];
+    let mut move_guards = [[0u64; 16]; MOVES];
+    let mut stops = [[0usize; 2]; STOPS];
+    let mut stop_guards = [[0u64; 16]; STOPS];
     serve_by(
         job,
         text,
@@ -239,14 +186,14 @@ fn serve_by(
     move_guards: &mut [[u64; 16]],
     stops: &mut [[usize; 2]],
     stop_guards: &mut [[u64; 16]],
-) -> Answers
+) -> Result<(usize, usize), Refusal>
     requires tables_blank { tables (replicate 10 (replicate 2 0)) (replicate 16 0) moves.old move_guards.old stops.old stop_guards.old ≡ blank_tables (length moves.old) (length move_guards.old) (length stops.old) (length stop_guards.old) }
     requires tables_suffice { (min (length text.now) 3328 ≤ 13 * length moves.old) × (min (length text.now) 3328 ≤ 13 * length move_guards.old) × (min (length text.now) 576 ≤ 9 * length stops.old) × (min (length text.now) 576 ≤ 9 * length stop_guards.old) }
     ensures { Served job text.now room.old room.new second.old second.new result }
 {
     let mut names = [[0usize; 2]; 10];
     let mut valid = [0u64; 16];
-    let r = read_blank(
+    let counts = read_blank(
         text,
         &mut names,
         &mut valid,
@@ -254,395 +201,166 @@ fn serve_by(
         move_guards,
         stops,
         stop_guards,
-    );
-    let SheetRead::Kept(c) = r else {
-        return pass_up(r);
-    };
-    spread_out(
-        job,
+    )?;
+    let sheet = SheetTables {
         text,
-        room,
-        second,
-        c,
-        &names,
-        valid,
+        counts,
+        names: &names,
+        valid: &valid,
         moves,
         move_guards,
         stops,
         stop_guards,
-    )
+    };
+    spread_out(job, room, second, &sheet)
 }
 
 // Does the job for the sheet that the tables stand for, read or made.
 fn spread_out(
     job: Job,
-    text: &[u8],
     room: &mut [u8],
     second: &mut [u8],
-    c: Counts,
-    names: &[[usize; 2]; 10],
-    valid: [u64; 16],
-    moves: &[[usize; 5]],
-    move_guards: &[[u64; 16]],
-    stops: &[[usize; 2]],
-    stop_guards: &[[u64; 16]],
-) -> Answers
-    ensures { (r : Sheet) → StandsFor text.now (tables names.now valid moves.now move_guards.now stops.now stop_guards.now) c r → Comes r → Left job r room.old room.new second.old second.new result }
+    sheet: &SheetTables,
+) -> Result<(usize, usize), Refusal>
+    ensures { (r : Sheet) → StandsOn sheet.now r → Comes r → Left job r room.old room.new second.old second.new result }
 {
-    if family::highest(c.start, c.moves, moves) < LOW {
-        return spread_low(
-            job,
-            text,
-            room,
-            second,
-            c,
-            names,
-            valid,
-            moves,
-            move_guards,
-            stops,
-            stop_guards,
-        );
+    if family::highest(sheet.counts.start, sheet.counts.moves, sheet.moves) < LOW {
+        return spread_in::<LOW>(job, room, second, sheet);
     }
-    spread_high(
-        job,
-        text,
-        room,
-        second,
-        c,
-        names,
-        valid,
-        moves,
-        move_guards,
-        stops,
-        stop_guards,
-    )
+    spread_in::<MOST_STATES>(job, room, second, sheet)
 }
 
-// The same where no product reaches a state from LOW on.
-fn spread_low(
+// The same by way of sets for so many states, among them the start and every one that a move leads to.
+fn spread_in<const ROWS: usize>(
     job: Job,
-    text: &[u8],
     room: &mut [u8],
     second: &mut [u8],
-    c: Counts,
-    names: &[[usize; 2]; 10],
-    valid: [u64; 16],
-    moves: &[[usize; 5]],
-    move_guards: &[[u64; 16]],
-    stops: &[[usize; 2]],
-    stop_guards: &[[u64; 16]],
-) -> Answers
-    requires { highest_to (c.start % 64) (to_at moves.now) (min (min c.moves 256) (length moves.now)) < 8 }
-    ensures { (r : Sheet) → StandsFor text.now (tables names.now valid moves.now move_guards.now stops.now stop_guards.now) c r → Comes r → Left job r room.old room.new second.old second.new result }
+    sheet: &SheetTables,
+) -> Result<(usize, usize), Refusal>
+    requires { (ROWS ≤ 64) × (highest_to (sheet.now.counts.start % 64) (to_at sheet.now.moves.now) (min (min sheet.now.counts.moves 256) (length sheet.now.moves.now)) < ROWS) }
+    ensures { (r : Sheet) → StandsOn sheet.now r → Comes r → Left job r room.old room.new second.old second.new result }
 {
-    let mut sets = [[0u64; 16]; LOW];
-    let depth = family::spread_low(c.start, valid, c.moves, moves, move_guards, &mut sets);
-    let mut out = [[0u64; 16]; LOW];
-    verdicts::all_out(c.moves, moves, move_guards, &mut out);
-    lay(
-        job,
-        text,
-        room,
-        second,
-        c,
+    let c = sheet.counts;
+    let mut sets = [[0u64; 16]; ROWS];
+    let depth = family::spread_low(
+        c.start,
+        *sheet.valid,
+        c.moves,
+        sheet.moves,
+        sheet.move_guards,
+        &mut sets,
+    );
+    let mut out = [[0u64; 16]; ROWS];
+    verdicts::all_out(c.moves, sheet.moves, sheet.move_guards, &mut out);
+    let desk = Desk {
+        sheet: *sheet,
+        sets: &sets,
+        out: &out,
         depth,
-        names,
-        valid,
-        &sets,
-        &out,
-        moves,
-        move_guards,
-        stops,
-        stop_guards,
-    )
-}
-
-// The same for every sheet.
-fn spread_high(
-    job: Job,
-    text: &[u8],
-    room: &mut [u8],
-    second: &mut [u8],
-    c: Counts,
-    names: &[[usize; 2]; 10],
-    valid: [u64; 16],
-    moves: &[[usize; 5]],
-    move_guards: &[[u64; 16]],
-    stops: &[[usize; 2]],
-    stop_guards: &[[u64; 16]],
-) -> Answers
-    ensures { (r : Sheet) → StandsFor text.now (tables names.now valid moves.now move_guards.now stops.now stop_guards.now) c r → Comes r → Left job r room.old room.new second.old second.new result }
-{
-    let mut sets = [[0u64; 16]; 64];
-    let depth = family::spread(c.start, valid, c.moves, moves, move_guards, &mut sets);
-    let mut out = [[0u64; 16]; 64];
-    verdicts::all_out(c.moves, moves, move_guards, &mut out);
-    lay(
-        job,
-        text,
-        room,
-        second,
-        c,
-        depth,
-        names,
-        valid,
-        &sets,
-        &out,
-        moves,
-        move_guards,
-        stops,
-        stop_guards,
-    )
+    };
+    lay(job, room, second, &SpreadDesk { desk })
 }
 
 // Lays what is asked for, once all that any job needs stands on the desk.
 fn lay(
     job: Job,
-    text: &[u8],
     room: &mut [u8],
     second: &mut [u8],
-    c: Counts,
-    depth: usize,
-    names: &[[usize; 2]; 10],
-    valid: [u64; 16],
-    sets: &[[u64; 16]],
-    out: &[[u64; 16]],
-    moves: &[[usize; 5]],
-    guards: &[[u64; 16]],
-    stops: &[[usize; 2]],
-    stop_guards: &[[u64; 16]],
-) -> Answers
-    requires { (min 64 (length sets.now) ≤ length out.now) × Outs moves.now guards.now sets.now (min (min (min c.moves 256) (length moves.now)) (length guards.now)) out.now }
-    ensures { (r : Sheet) → Laid text.now c (tables names.now valid moves.now guards.now stops.now stop_guards.now) sets.now depth r → Left job r room.old room.new second.old second.new result }
+    spread: &SpreadDesk,
+) -> Result<(usize, usize), Refusal>
+    ensures { (r : Sheet) → LaidOn spread.now.desk r → Left job r room.old room.new second.old second.new result }
 {
     match job {
-        Job::Report(order) => lay_report(
-            order,
-            room,
-            c,
-            depth,
-            sets,
-            out,
-            moves,
-            guards,
-            stops,
-            stop_guards,
-        ),
-        Job::Clean => lay_clean(text, room, c, names, valid, sets, out, moves, guards),
-        Job::Both => lay_both(
-            text,
-            room,
-            second,
-            c,
-            depth,
-            names,
-            valid,
-            sets,
-            out,
-            moves,
-            guards,
-            stops,
-            stop_guards,
-        ),
+        Job::Report(order) => lay_report(order, room, spread),
+        Job::Clean => lay_clean(room, spread),
+        Job::Both => lay_both(room, second, spread),
     }
 }
 
 // The report, if it fits.
-fn lay_report(
-    order: Order,
-    room: &mut [u8],
-    c: Counts,
-    depth: usize,
-    sets: &[[u64; 16]],
-    out: &[[u64; 16]],
-    moves: &[[usize; 5]],
-    guards: &[[u64; 16]],
-    stops: &[[usize; 2]],
-    stop_guards: &[[u64; 16]],
-) -> Answers
-    requires { (min 64 (length sets.now) ≤ length out.now) × Outs moves.now guards.now sets.now (min (min (min c.moves 256) (length moves.now)) (length guards.now)) out.now }
-    ensures { (s : List ℕ) (n : List (List ℕ)) (v : List ℕ) (r : Sheet) → Laid s c (tables n v moves.now guards.now stops.now stop_guards.now) sets.now depth r → Filling (IsReport (Before order) r) (length room.old) room.old room.new result }
+fn lay_report(order: Order, room: &mut [u8], spread: &SpreadDesk) -> Result<(usize, usize), Refusal>
+    ensures { (r : Sheet) → LaidOn spread.now.desk r → Filling (IsReport (Before order) r) (length room.old) room.old room.new result }
 {
-    if !report_fits(
-        order,
-        room,
-        c,
-        depth,
-        sets,
-        out,
-        moves,
-        guards,
-        stops,
-        stop_guards,
-    ) {
-        return refuse(11, 0);
+    if !report_fits(order, room, spread) {
+        return refuse(Reason::RoomTooShort, 0, 0);
     }
-    let k = put_report(
-        order,
-        room,
-        c,
-        depth,
-        sets,
-        out,
-        moves,
-        guards,
-        stops,
-        stop_guards,
-    );
-    Answers::Done(k, 0)
+    let n = put_report(order, room, &spread.desk);
+    Ok((n, 0))
 }
 
 // The clean sheet, if it fits.
-fn lay_clean(
-    text: &[u8],
-    room: &mut [u8],
-    c: Counts,
-    names: &[[usize; 2]; 10],
-    valid: [u64; 16],
-    sets: &[[u64; 16]],
-    out: &[[u64; 16]],
-    moves: &[[usize; 5]],
-    guards: &[[u64; 16]],
-) -> Answers
-    requires { (min 64 (length sets.now) ≤ length out.now) × Outs moves.now guards.now sets.now (min (min (min c.moves 256) (length moves.now)) (length guards.now)) out.now }
-    ensures { (t h : List (List ℕ)) (depth : ℕ) (r : Sheet) → Laid text.now c (tables names.now valid moves.now guards.now t h) sets.now depth r → Filling (IsClean r) (clean_most room.old) room.old room.new result }
+fn lay_clean(room: &mut [u8], spread: &SpreadDesk) -> Result<(usize, usize), Refusal>
+    ensures { (r : Sheet) → LaidOn spread.now.desk r → Filling (IsClean r) (clean_most room.old) room.old room.new result }
 {
+    let desk = &spread.desk;
     let mut rows = [0u8; 256];
-    let kept = order_moves(text, c.moves, moves, guards, sets, &mut rows);
-    let n = clean_length(text, c, names, valid, moves, guards, sets, out, &rows, kept);
-    if counts::at_most(room.len(), MOST_BYTES) < n {
-        return refuse(11, 0);
-    }
-    let k = put_clean(
-        room, text, c, names, valid, moves, guards, sets, out, &rows, kept,
+    let kept = order_moves(
+        desk.sheet.text,
+        desk.sheet.counts.moves,
+        desk.sheet.moves,
+        desk.sheet.move_guards,
+        desk.sets,
+        &mut rows,
     );
-    Answers::Done(k, 0)
+    let long = clean_length(spread, &rows, kept);
+    if room.len().min(MOST_BYTES) < long {
+        return refuse(Reason::RoomTooShort, 0, 0);
+    }
+    let n = put_clean(room, desk, &rows, kept);
+    Ok((n, 0))
 }
 
 // Both, if both fit: no room is written before both are known to.
 fn lay_both(
-    text: &[u8],
     room: &mut [u8],
     second: &mut [u8],
-    c: Counts,
-    depth: usize,
-    names: &[[usize; 2]; 10],
-    valid: [u64; 16],
-    sets: &[[u64; 16]],
-    out: &[[u64; 16]],
-    moves: &[[usize; 5]],
-    guards: &[[u64; 16]],
-    stops: &[[usize; 2]],
-    stop_guards: &[[u64; 16]],
-) -> Answers
-    requires { (min 64 (length sets.now) ≤ length out.now) × Outs moves.now guards.now sets.now (min (min (min c.moves 256) (length moves.now)) (length guards.now)) out.now }
-    ensures { (r : Sheet) → Laid text.now c (tables names.now valid moves.now guards.now stops.now stop_guards.now) sets.now depth r → BothFilling r room.old room.new second.old second.new result }
+    spread: &SpreadDesk,
+) -> Result<(usize, usize), Refusal>
+    ensures { (r : Sheet) → LaidOn spread.now.desk r → BothFilling r room.old room.new second.old second.new result }
 {
     let order = DEFAULT_ORDER;
+    let desk = &spread.desk;
     let mut rows = [0u8; 256];
-    let kept = order_moves(text, c.moves, moves, guards, sets, &mut rows);
-    let long = clean_length(text, c, names, valid, moves, guards, sets, out, &rows, kept);
-    if counts::at_most(second.len(), MOST_BYTES) < long {
-        let line = longer(room, c, depth, sets, out, moves, guards, stops, stop_guards);
-        return refuse(11, line);
-    }
-    if !report_fits(
-        order,
-        room,
-        c,
-        depth,
-        sets,
-        out,
-        moves,
-        guards,
-        stops,
-        stop_guards,
-    ) {
-        return refuse(11, 1);
-    }
-    let m = put_clean(
-        second, text, c, names, valid, moves, guards, sets, out, &rows, kept,
+    let kept = order_moves(
+        desk.sheet.text,
+        desk.sheet.counts.moves,
+        desk.sheet.moves,
+        desk.sheet.move_guards,
+        desk.sets,
+        &mut rows,
     );
-    let n = put_report(
-        order,
-        room,
-        c,
-        depth,
-        sets,
-        out,
-        moves,
-        guards,
-        stops,
-        stop_guards,
-    );
-    Answers::Done(n, m)
+    let long = clean_length(spread, &rows, kept);
+    if second.len().min(MOST_BYTES) < long {
+        let line = longer(room, spread);
+        return refuse(Reason::RoomTooShort, line, 0);
+    }
+    if !report_fits(order, room, spread) {
+        return refuse(Reason::RoomTooShort, 1, 0);
+    }
+    let m = put_clean(second, desk, &rows, kept);
+    let n = put_report(order, room, desk);
+    Ok((n, m))
 }
 
 // Whether the report fits into the room, which stays as it is. What no report exceeds needs no run.
-fn report_fits(
-    order: Order,
-    room: &mut [u8],
-    c: Counts,
-    depth: usize,
-    sets: &[[u64; 16]],
-    out: &[[u64; 16]],
-    moves: &[[usize; 5]],
-    guards: &[[u64; 16]],
-    stops: &[[usize; 2]],
-    stop_guards: &[[u64; 16]],
-) -> bool
-    requires { (min 64 (length sets.now) ≤ length out.now) × Outs moves.now guards.now sets.now (min (min (min c.moves 256) (length moves.now)) (length guards.now)) out.now }
-    ensures { (room.new ≡ room.old) × ((s : List ℕ) (n : List (List ℕ)) (v : List ℕ) (r : Sheet) → Laid s c (tables n v moves.now guards.now stops.now stop_guards.now) sets.now depth r → Fitting (IsReport (Before order) r) (length room.old) result) }
+fn report_fits(order: Order, room: &mut [u8], spread: &SpreadDesk) -> bool
+    ensures { (room.new ≡ room.old) × ((r : Sheet) → LaidOn spread.now.desk r → Fitting (IsReport (Before order) r) (length room.old) result) }
 {
     if REPORT_MOST <= room.len() {
         return true;
     }
     let mut none = [0u8; 0];
-    let n = put_report(
-        order,
-        &mut none,
-        c,
-        depth,
-        sets,
-        out,
-        moves,
-        guards,
-        stops,
-        stop_guards,
-    );
+    let n = put_report(order, &mut none, &spread.desk);
     n <= room.len()
 }
 
 // Of which room 11 speaks where the clean sheet is too long: of the report's, 1, if that is too long as
 // well. The room stays as it is.
-fn longer(
-    room: &mut [u8],
-    c: Counts,
-    depth: usize,
-    sets: &[[u64; 16]],
-    out: &[[u64; 16]],
-    moves: &[[usize; 5]],
-    guards: &[[u64; 16]],
-    stops: &[[usize; 2]],
-    stop_guards: &[[u64; 16]],
-) -> usize
-    requires { (min 64 (length sets.now) ≤ length out.now) × Outs moves.now guards.now sets.now (min (min (min c.moves 256) (length moves.now)) (length guards.now)) out.now }
-    ensures { (room.new ≡ room.old) × ((s : List ℕ) (n : List (List ℕ)) (v : List ℕ) (r : Sheet) → Laid s c (tables n v moves.now guards.now stops.now stop_guards.now) sets.now depth r → Longer (IsReport (Before Order.Plainest) r) (length room.old) result) }
+fn longer(room: &mut [u8], spread: &SpreadDesk) -> usize
+    ensures { (room.new ≡ room.old) × ((r : Sheet) → LaidOn spread.now.desk r → Longer (IsReport (Before Order.Plainest) r) (length room.old) result) }
 {
     let mut no_room = [0u8; 0];
-    let n = put_report(
-        DEFAULT_ORDER,
-        &mut no_room,
-        c,
-        depth,
-        sets,
-        out,
-        moves,
-        guards,
-        stops,
-        stop_guards,
-    );
+    let n = put_report(DEFAULT_ORDER, &mut no_room, &spread.desk);
     if room.len() < n {
         return 1;
     }
@@ -650,24 +368,10 @@ fn longer(
 }
 
 // How long the clean sheet is: a run without a room tells it.
-fn clean_length(
-    text: &[u8],
-    c: Counts,
-    names: &[[usize; 2]; 10],
-    valid: [u64; 16],
-    moves: &[[usize; 5]],
-    guards: &[[u64; 16]],
-    sets: &[[u64; 16]],
-    out: &[[u64; 16]],
-    rows: &[u8; 256],
-    kept: usize,
-) -> usize
-    requires rows_within { RowsWithin rows.now kept moves.now guards.now sets.now }
-    requires outs_laid { (min 64 (length sets.now) ≤ length out.now) × Outs moves.now guards.now sets.now (min (min (min c.moves 256) (length moves.now)) (length guards.now)) out.now }
-    ensures { (t h : List (List ℕ)) (r : Sheet) → Prepared text.now c (tables names.now valid moves.now guards.now t h) sets.now rows.now kept r → Long (IsClean r) result }
+fn clean_length(spread: &SpreadDesk, rows: &[u8; 256], kept: usize) -> usize
+    requires { RowsWithin rows.now kept spread.now.desk.sheet.moves.now spread.now.desk.sheet.move_guards.now spread.now.desk.sets.now }
+    ensures { (t h : List (List ℕ)) (r : Sheet) → PreparedOn spread.now.desk t h rows.now kept r → Long (IsClean r) result }
 {
     let mut none = [0u8; 0];
-    put_clean(
-        &mut none, text, c, names, valid, moves, guards, sets, out, rows, kept,
-    )
+    put_clean(&mut none, &spread.desk, rows, kept)
 }

@@ -2,10 +2,12 @@
 -- these are definitions.
 use Rattle.std.specs.Prelude.{List, [], ◌≡◌, ℕ, ◌%◌, ◌<◌, min, length, get_or}
 use Rattle.products.specs.Sets.{has, In}
+use Rattle.guards.specs.Reading.{names_of}
 use Rattle.sheet.specs.declared.Counts.{Counts}
 use Rattle.sheet.specs.Sheet.{Sheet}
-use Rattle.sheet.specs.Tables.{Tables, StandsFor}
+use Rattle.sheet.specs.Tables.{Tables, tables, StandsFor}
 use Rattle.sheet.specs.Accepted.{Accepted}
+use Rattle.desk.specs.declared.Desk.{Desk}
 use Rattle.family.specs.Ways.{Reaches}
 use Rattle.verdicts.specs.Judging.{guards_at}
 use Rattle.ordering.specs.Ordering.{key_at, MadeRow, Orders}
@@ -35,3 +37,20 @@ pub record RowsWithin (order : List ℕ) (kept : ℕ) (moves guards sets : List 
 -- of the products that reach a state, `out` has those in which the guard of one of the first `count` moves out of it holds
 pub record Outs (moves guards sets : List (List ℕ)) (count : ℕ) (out : List (List ℕ)) : Type 0 where
   pub is : (q : ℕ) → q < 64 → (p : ℕ) → In (get_or sets q []) p → has (get_or out q []) p ≡ guards_at moves guards q p count
+
+-- ---- the same of what lies on a desk
+
+-- the names of the features, the last first
+abbrev pub names_on : Desk → List (List ℕ)
+names_on d = names_of d.sheet.text.now d.sheet.names.now (min d.sheet.counts.features 10)
+
+-- how many rows of moves there are in both tables
+abbrev pub rows_on : Desk → ℕ
+rows_on d = min (min (min d.sheet.counts.moves 256) (length d.sheet.moves.now)) (length d.sheet.move_guards.now)
+
+abbrev pub OutsOn : Desk → Type 0
+OutsOn d = Outs d.sheet.moves.now d.sheet.move_guards.now d.sets.now (rows_on d) d.out.now
+
+-- t and h are whatever tables of stops
+abbrev pub PreparedOn : Desk → (t h : List (List ℕ)) → (order : List ℕ) → (kept : ℕ) → Sheet → Type 0
+PreparedOn d t h order kept r = Prepared d.sheet.text.now d.sheet.counts (tables d.sheet.names.now d.sheet.valid.now d.sheet.moves.now d.sheet.move_guards.now t h) d.sets.now order kept r

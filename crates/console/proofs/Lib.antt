@@ -1,4 +1,3 @@
-pub mod Answer
 pub mod Came
 pub mod Sofar
 pub mod Lined

@@ -1,14 +1,13 @@
 -- Reading a line: the bytes that came so far, of which none ends a line, are laid from the buffer's begin on, and they are what left the reader, where
 -- its bytes are known. Assumes nothing.
-use mathlib.Core.Path.{◌≡◌, refl}
+use mathlib.Core.Path.{◌≡◌}
 use mathlib.Core.List.{List, [], ◌∷◌, ◌++◌}
-use Prim.Native.Nat.{ℕ, ◌≤◌}
-use lib.ListN.{length}
-use Rattle.std.specs.Prelude.{Option, None, Some}
+use Prim.Native.Nat.{ℕ}
+use Rattle.std.specs.Prelude.{Option}
 use Rattle.std.specs.Io.KnownBytes.{Consumes}
 use Rattle.std.proofs.KnownBytes.{Consumes-trans}
-use Rattle.text.specs.Text.{limit, Wrote}
-use Rattle.text.proofs.Laws.{wrote_none, wrote_then}
+use Rattle.text.specs.Text.{Wrote}
+use Rattle.text.proofs.Laws.{wrote_then}
 use Rattle.console.specs.Reading.{Unended}
 
 -- the reader had the bytes `known` and has `left`; the buffer was l and is l', and n is the place behind the line so far
@@ -17,13 +16,6 @@ pub record Begun (known left : Option (List ℕ)) (l l' : List ℕ) (n : ℕ) : 
   pub unended : Unended text
   pub laid : Wrote l 0 text l' n
   pub spent : Consumes known left text
-
-none_spent : (known : Option (List ℕ)) → Consumes known known []
-none_spent None = tt
-none_spent (Some xs) = refl
-
-pub begun_none : (known : Option (List ℕ)) {l : List ℕ} → length l ≤ limit → Begun known known l l 0
-begun_none known h = record { text = []; unended = tt; laid = wrote_none h; spent = none_spent known }
 
 unended_more : (bs : List ℕ) {b : ℕ} → Unended bs → (b ≡ 10 → ⊥) → Unended (bs ++ b ∷ [])
 unended_more [] u h = (h, tt)

@@ -8,10 +8,10 @@ ghost use Rattle.std.specs.Prelude.{◌≡◌, ◌≤◌, length, take, IfSome};
 ghost use Rattle.console.specs.Reading.{Held, Told, Laid, Came, Lined, CameNext, ToldLine, piece_of};
 ghost use Rattle.console.specs.Numbers.{number_of};
 
-use fields::Number;
 use std::env::{Env, FillError};
 use std::io;
 use std::io::{Read, Stderr, Stdin, Stdout};
+use tables::MOST_BYTES;
 
 // Where a program reads, where its answers go, and where it says what went wrong.
 #[derive(Clone, Copy)]
@@ -21,36 +21,25 @@ pub struct Streams {
     pub stderr: Stderr,
 }
 
-// The whole input, with the number of its bytes that stand in the buffer; or one that could not be read
-// to its end.
-#[derive(Clone, Copy)]
-pub enum Input {
-    Whole(usize),
-    Broken,
+impl Streams {
+    // Those of the program itself.
+    pub fn new(rt: &HostRuntime) -> Streams {
+        Streams {
+            stdin: rt.stdin(),
+            stdout: rt.stdout(),
+            stderr: rt.stderr(),
+        }
+    }
 }
 
-// A line, with the number of its bytes; that no line comes any more; or an error.
-#[derive(Clone, Copy)]
-pub enum Line {
-    Of(usize),
-    End,
-    Failed,
-}
+// An input could not be read to its end.
+#[derive(Clone, Copy, Debug, PartialEq, Eq)]
+pub struct Broken;
 
-// What one read gave: bytes, and the place behind them; the end of the input; or an error.
-#[derive(Clone, Copy)]
-enum Piece {
-    Upto(usize),
-    End,
-    Failed,
-}
-
-// The same for one byte.
-#[derive(Clone, Copy)]
-enum Next {
-    Byte(u8),
-    End,
-    Failed,
+impl From<io::Error> for Broken {
+    fn from(_error: io::Error) -> Broken {
+        Broken
+    }
 }
 
 const LINE_END: u8 = 10;
@@ -61,9 +50,25 @@ const AT_ONCE: usize = 4096;
 // A number above this one is told as this one.
 const MOST_NUMBER: usize = 1_000_000_000;
 
-// Reads the sheet on standard input to its end. As much of it as fits is laid at the start of buf, and the
-// rest is passed over. Where a read fails a message goes to standard error.
-pub fn read_input(streams: &Streams, buf: &mut [u8]) -> Input
+// Reads the sheet on standard input and writes what `answer` lays for it into a room; `answer` says how many
+// bytes that is. Where the sheet cannot be read to its end nothing is written.
+pub fn answer_input<F: FnOnce(&[u8], &mut [u8]) -> usize>(rt: &HostRuntime, answer: F)
+    requires { (text : _) (room : _) → length room.now ≡ 65536 → F.pre answer text room }
+{
+    let streams = Streams::new(rt);
+    let mut buf = [0u8; MOST_BYTES + 1];
+    let Ok(n) = read_input(&streams, &mut buf) else {
+        return;
+    };
+    let mut room = [0u8; MOST_BYTES];
+    let m = answer(first(&buf, n), &mut room);
+    print(&streams, first(&room, m));
+}
+
+// Reads the sheet on standard input to its end, and answers how many of its bytes stand in buf. As much of
+// it as fits is laid at the start of buf, and the rest is passed over. Where a read fails a message goes to
+// standard error.
+pub fn read_input(streams: &Streams, buf: &mut [u8]) -> Result<usize, Broken>
     ensures { Held buf.old buf.new result }
 {
     let mut stdin = streams.stdin;
@@ -71,116 +76,99 @@ pub fn read_input(streams: &Streams, buf: &mut [u8]) -> Input
 }
 
 // The same for a file that is open, or whatever else is read.
-pub fn read_from<R: Read>(streams: &Streams, reader: &mut R, buf: &mut [u8]) -> Input
+pub fn read_from<R: Read>(
+    streams: &Streams,
+    reader: &mut R,
+    buf: &mut [u8],
+) -> Result<usize, Broken>
     ensures held { Held buf.old buf.new result }
     ensures told { IfSome (R.remaining reader.old) (λ bytes. Told bytes buf.old buf.new result) }
 {
     let input = read_all(reader, buf);
-    if let Input::Broken = input {
+    if input.is_err() {
         tell(streams, b"the sheet could not be read to its end\n");
     }
     input
 }
 
 // The same without the message. A proved loop has to end, and nothing says that an input does: so the
-// loop counts its turns down, from a number that no run uses up.
-fn read_all<R: Read>(reader: &mut R, buf: &mut [u8]) -> Input
+// loop has more turns than any run uses up.
+#[tactic(auto, using(crate::proofs::Sofar::sofar_more))]
+fn read_all<R: Read>(reader: &mut R, buf: &mut [u8]) -> Result<usize, Broken>
     ensures held { Held buf.old buf.new result }
     ensures told { IfSome (R.remaining reader.old) (λ bytes. Told bytes buf.old buf.new result) }
 {
     let mut at = 0;
-    let mut turns = u64::MAX;
-    while turns > 0 {
-        let piece = read_piece(reader, buf, at);
-        match piece {
-            Piece::Upto(next) => {
-                at = next;
-            }
-            Piece::End => {
-                let n = counts::at_most(at, buf.len());
-                return Input::Whole(n);
-            }
-            Piece::Failed => {
-                return Input::Broken;
-            }
-        }
-        turns -= 1;
+    for _ in 0..u64::MAX {
+        let Some(next) = read_piece(reader, buf, at)? else {
+            return Ok(at.min(buf.len()));
+        };
+        at = next;
     }
-    Input::Broken
+    Err(Broken)
 }
 
-// Reads once, and lays what came into buf from the place `at` on, as far as it fits.
-fn read_piece<R: Read>(reader: &mut R, buf: &mut [u8], at: usize) -> Piece
+// Reads once, and lays what came into buf from the place `at` on, as far as it fits. Answers the place behind
+// it; none at the end of the input.
+#[tactic(auto, using(crate::proofs::Came::some_spent, crate::proofs::Came::none_left))]
+fn read_piece<R: Read>(reader: &mut R, buf: &mut [u8], at: usize) -> Result<Option<usize>, Broken>
     ensures laid { Laid buf.old at buf.new result }
     ensures came { Came (R.remaining reader.old) (R.remaining reader.new) buf.old at buf.new result }
 {
     let mut some = [0u8; AT_ONCE];
     let got = reader.read(&mut some);
-    let piece = piece_of(got, &some);
-    match piece {
-        Piece::Upto(n) => Piece::Upto(text::put_bytes(buf, at, first(&some, n))),
-        Piece::End => Piece::End,
-        Piece::Failed => Piece::Failed,
-    }
+    let Some(n) = piece_of(got, &some)? else {
+        return Ok(None);
+    };
+    Ok(Some(text::put_bytes(buf, at, first(&some, n))))
 }
 
-// What a read that was handed `some` says by its answer.
-fn piece_of(got: io::Result<usize>, some: &[u8]) -> Piece
+// What a read that was handed `some` says by its answer: how many bytes came; none at the end of the
+// input.
+#[tactic(auto, unfolding(crate::specs::Reading::piece_of))]
+fn piece_of(got: io::Result<usize>, some: &[u8]) -> Result<Option<usize>, Broken>
     ensures { result ≡ piece_of got (length some.now) }
 {
-    let Ok(n) = got else {
-        return Piece::Failed;
-    };
+    let n = got?;
     if n == 0 {
-        return Piece::End;
+        return Ok(None);
     }
-    Piece::Upto(counts::at_most(n, some.len()))
+    Ok(Some(n.min(some.len())))
 }
 
-// Reads one line, byte by byte, so that nothing behind it is taken. As much of it as fits is laid at the start
-// of buf, its end left out; the last line may lack its end.
-pub fn read_line<R: Read>(reader: &mut R, buf: &mut [u8]) -> Line
+// Reads one line, byte by byte, so that nothing behind it is taken, and answers how many bytes it has; none
+// where no line comes any more. As much of it as fits is laid at the start of buf, its end left out; the last
+// line may lack its end.
+#[tactic(auto, using(crate::proofs::Lined::begun_more))]
+pub fn read_line<R: Read>(reader: &mut R, buf: &mut [u8]) -> Result<Option<usize>, Broken>
     ensures lined { Lined buf.old buf.new result }
     ensures told { IfSome (R.remaining reader.old)
         (λ bytes. ToldLine bytes (R.remaining reader.new) buf.old buf.new result) }
 {
     let mut n = 0;
-    let mut turns = u64::MAX;
-    while turns > 0 {
-        let next = read_byte(reader);
-        match next {
-            Next::Byte(b) => {
-                if b == LINE_END {
-                    return Line::Of(n);
-                }
-                n = text::put(buf, n, b);
+    for _ in 0..u64::MAX {
+        let Some(b) = read_byte(reader)? else {
+            if n == 0 {
+                return Ok(None);
             }
-            Next::End => {
-                if n == 0 {
-                    return Line::End;
-                }
-                return Line::Of(n);
-            }
-            Next::Failed => {
-                return Line::Failed;
-            }
+            return Ok(Some(n));
+        };
+        if b == LINE_END {
+            return Ok(Some(n));
         }
-        turns -= 1;
+        n = text::put(buf, n, b);
     }
-    Line::Failed
+    Err(Broken)
 }
 
-fn read_byte<R: Read>(reader: &mut R) -> Next
+// Reads one byte; none at the end of the input.
+fn read_byte<R: Read>(reader: &mut R) -> Result<Option<u8>, Broken>
     ensures { CameNext (R.remaining reader.old) (R.remaining reader.new) result }
 {
     let mut byte = [0u8; 1];
     let got = reader.read(&mut byte);
-    let piece = piece_of(got, &byte);
-    match piece {
-        Piece::Upto(_) => Next::Byte(byte[0]),
-        Piece::End => Next::End,
-        Piece::Failed => Next::Failed,
-    }
+    let piece = piece_of(got, &byte)?;
+    Ok(piece.map(|_| byte[0]))
 }
 
 // Lays word i of the command line at the start of buf, and answers how many bytes it has: 0 also where there
@@ -188,52 +176,38 @@ fn read_byte<R: Read>(reader: &mut R) -> Next
 pub fn word<E: Env>(env: &E, i: usize, buf: &mut [u8]) -> usize
     ensures { result ≤ length buf.new }
 {
-    match env.arg(i, buf) {
-        Ok(n) => n,
-        Err(_) => 0,
-    }
+    env.arg(i, buf).unwrap_or(0)
 }
 
 // Whether the command line has a word i.
 pub fn has_word<E: Env>(env: &E, i: usize) -> bool {
     let mut room = [0u8; 1];
-    match env.arg(i, &mut room) {
-        Err(FillError::NotPresent) => false,
-        _ => true,
-    }
+    !matches!(env.arg(i, &mut room), Err(FillError::NotPresent))
 }
 
 // The number that a word spells, one decimal digit or more.
-pub fn number(word: &[u8]) -> Number
+#[tactic(auto, using(crate::proofs::Spelt::spelt_more, crate::proofs::Spelt::spelt_no_digit, crate::proofs::Spelt::spelt_all))]
+pub fn number(word: &[u8]) -> Option<usize>
     ensures { result ≡ number_of word.now }
 {
-    if word.len() == 0 {
-        return Number::Bad;
+    if word.is_empty() {
+        return None;
     }
     let mut n = 0;
-    let mut i = 0;
-    while i < word.len() {
-        let b = word[i];
-        if b < b'0' {
-            return Number::Bad;
+    for &b in word {
+        if !b.is_ascii_digit() {
+            return None;
         }
-        if b'9' < b {
-            return Number::Bad;
-        }
-        n = counts::at_most(n * 10 + (b as usize - 48), MOST_NUMBER);
-        i += 1;
+        n = (n * 10 + (b - b'0') as usize).min(MOST_NUMBER);
     }
-    Number::Of(n)
+    Some(n)
 }
 
 // The first n bytes of the room, all of it where it is shorter.
 pub fn first(room: &[u8], n: usize) -> &[u8]
     ensures { result.now ≡ take n room.now }
 {
-    if room.len() <= n {
-        return room;
-    }
-    &room[0..n]
+    &room[..n.min(room.len())]
 }
 
 // Writes to standard output; answers whether all was written. Where it was not, a message goes to

@@ -1,13 +1,10 @@
--- How many fields a line has, by the places where its tabs were found: one law for each return of `is_one`, `cut_two` and `cut_four`. Assumes nothing.
-use mathlib.Core.Path.{◌≡◌}
-use mathlib.Core.List.{List, [], ◌∷◌}
-use Prim.Native.Nat.{ℕ, ◌+◌, ◌≤◌, ◌<◌}
-use native.Mathlib.Omega.{arith}
-use lib.ListN.{length, drop}
-use Rattle.fields.specs.declared.TwoFields.TheVariants.{Parted}
-use Rattle.fields.specs.declared.FourFields.TheVariants.{Ends}
+-- How many fields a line has, by the places where its tabs were found: one law for `is_one`, and one for each return of `cut_two` and `cut_four`.
+-- Assumes nothing.
+use Rattle.std.proofs.Common.{Option, Some, None, MatchOption, ◌≡◌, Bool, true, false, not, true≢false, List, [], ◌∷◌, ℕ, ◌+◌, ◌≤◌, ◌<◌, arith, length, drop}
+use Rattle.std.specs.Option.{is_some}
+use Rattle.std.proofs.lemmas.Bool.{false≢true}
 use Rattle.fields.specs.Bytes.{part, FirstAt}
-use Rattle.fields.specs.Cutting.{fields, only, not_one, not_two, not_four, as_one, as_two, as_four, CutsTwo, CutsFour}
+use Rattle.fields.specs.Cutting.{fields, only, not_one, not_two, not_four, as_one, as_two, as_four, IsOne, CutsTwo, CutsFour, tabs}
 use Rattle.fields.proofs.Parts.{part_rest}
 use Rattle.fields.proofs.Cuts.{cut_more, cut_last, cut_some}
 
@@ -29,7 +26,7 @@ module _ {l : List ℕ} {b : ℕ} (q : FirstAt l 9 0 b) where
     one_no = rw (first, (cut_some 9 (drop (b + 1) l)).2)
 
     module _ {c : ℕ} (q2 : FirstAt l 9 (b + 1) c) where
-      pub two_yes : length l ≤ c → CutsTwo l (Parted b)
+      pub two_yes : length l ≤ c → CutsTwo l (Some b)
       two_yes k = (h, rw (first, cut_last q2 k, part_rest l (b + 1)))
 
       pub four_two : length l ≤ c → as_four (fields l) ≡ not_four
@@ -53,5 +50,11 @@ module _ {l : List ℕ} {b : ℕ} (q : FirstAt l 9 0 b) where
             pub four_more : f < length l → as_four (fields l) ≡ not_four
             four_more n = rw (third, cut_more q4 ([] ∷ []) n, (cut_some 9 (drop (f + 1) l)).2)
 
-            pub four_yes : length l ≤ f → CutsFour l (Ends b c d)
+            pub four_yes : length l ≤ f → CutsFour l (Some (tabs b c d))
             four_yes n = (omega (arith, (q2.here k).0), omega (arith, (q3.here m).0), m, rw (third, cut_last q4 n, part_rest l (d + 1)))
+
+pub one_told : (l : List ℕ) (r : Option ℕ) (t : Bool) → is_some r ≡ not t → MatchOption r (FirstAt l 9 0 (length l)) (λ at. FirstAt l 9 0 at × (at < length l)) → IsOne l t
+one_told l None true e q = one_yes q (omega arith)
+one_told l None false e q = absurd (false≢true e)
+one_told l (Some at) true e q = absurd (true≢false e)
+one_told l (Some at) false e q = one_no q.0 q.1

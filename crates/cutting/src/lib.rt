@@ -1,57 +1,51 @@
 // A line cut into the one, two or four fields that it must have.
 #![tactic(auto)]
 
-ghost use Rattle.std.specs.Prelude.{◌+◌, ◌<◌};
+ghost use Rattle.std.specs.Prelude.{◌<◌, length, MatchOption};
+ghost use Rattle.fields.specs.Bytes.{FirstAt};
 ghost use Rattle.fields.specs.Cutting.{IsOne, CutsTwo, CutsFour};
 
-use fields::{FourFields, TwoFields};
-
-const TAB: u8 = 9;
+use fields::Tabs;
 
 // Whether l is one field.
 pub fn is_one(l: &[u8]) -> bool
     ensures { IsOne l.now result }
 {
-    if fields::find(l, TAB, 0) < l.len() {
-        return false;
-    }
-    true
+    tab(l, 0).is_none()
 }
 
 // Cuts l where it is two fields.
-pub fn cut_two(l: &[u8]) -> TwoFields
+pub fn cut_two(l: &[u8]) -> Option<usize>
     ensures { CutsTwo l.now result }
 {
-    let b = fields::find(l, TAB, 0);
-    if l.len() <= b {
-        return TwoFields::NotTwo;
+    let b = tab(l, 0)?;
+    match tab(l, b + 1) {
+        Some(_) => None,
+        None => Some(b),
     }
-    let c = fields::find(l, TAB, b + 1);
-    if c < l.len() {
-        return TwoFields::NotTwo;
-    }
-    TwoFields::Parted(b)
 }
 
 // Cuts l where it is four fields.
-pub fn cut_four(l: &[u8]) -> FourFields
+pub fn cut_four(l: &[u8]) -> Option<Tabs>
     ensures { CutsFour l.now result }
 {
-    let b = fields::find(l, TAB, 0);
-    if l.len() <= b {
-        return FourFields::NotFour;
+    let first = tab(l, 0)?;
+    let second = tab(l, first + 1)?;
+    let third = tab(l, second + 1)?;
+    match tab(l, third + 1) {
+        Some(_) => None,
+        None => Some(Tabs {
+            first,
+            second,
+            third,
+        }),
     }
-    let c = fields::find(l, TAB, b + 1);
-    if l.len() <= c {
-        return FourFields::NotFour;
-    }
-    let d = fields::find(l, TAB, c + 1);
-    if l.len() <= d {
-        return FourFields::NotFour;
-    }
-    let f = fields::find(l, TAB, d + 1);
-    if f < l.len() {
-        return FourFields::NotFour;
-    }
-    FourFields::Ends { b, c, d }
+}
+
+// Where the first tab of l from `from` on is.
+fn tab(l: &[u8], from: usize) -> Option<usize>
+    ensures { MatchOption result (FirstAt l.now 9 from (length l.now)) (λ at. FirstAt l.now 9 from at × (at < length l.now)) }
+{
+    let at = fields::find(l, b'\t', from);
+    if at < l.len() { Some(at) } else { None }
 }

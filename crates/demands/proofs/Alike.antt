@@ -1,9 +1,8 @@
 -- The order changes no verdict: two verdicts on one move, state or stop line, each with the products of its own order, have the same
 -- word; and missed names a product in one order if it does in the other. Assumes nothing.
+use Rattle.std.proofs.Common.{Option, Some, None}
 use mathlib.Core.Path.{◌≡◌, refl, subst}
 use Prim.Native.Nat.{ℕ}
-use Rattle.products.specs.declared.Found.{Found}
-use Rattle.products.specs.declared.Found.TheVariants.{At, Nothing}
 use Rattle.products.specs.Sets.{Finds}
 use Rattle.products.specs.Orders.{Before}
 use Rattle.products.proofs.Laws.{found_none}
@@ -20,19 +19,19 @@ use Rattle.reporting.specs.Report.{word, missed_of, state_word, stop_word}
 use Rattle.demands.specs.Demands.{OrderChangesNoVerdict}
 
 -- a product is not none
-named : {p : ℕ} → At p ≡ Nothing → ⊥
+named : {p : ℕ} → Some p ≡ None → ⊥
 named e = subst some e tt
   where
-    some : Found → Type 0
-    some (At p) = Unit
-    some Nothing = ⊥
+    some : Option ℕ → Type 0
+    some (Some p) = Unit
+    some None = ⊥
 
 module _ (R S : ℕ → ℕ → Type 0) (r : Sheet) where
-  none_too : (P : ℕ → Type 0) (f : Found) → ((p : ℕ) → P p → ⊥) → Finds S P f → f ≡ Nothing
-  none_too P (At p) none l = absurd (none p l.is)
-  none_too P Nothing none l = refl
+  none_too : (P : ℕ → Type 0) (f : Option ℕ) → ((p : ℕ) → P p → ⊥) → Finds S P f → f ≡ None
+  none_too P (Some p) none l = absurd (none p l.is)
+  none_too P None none l = refl
 
-  moves_alike : (m : Move) (v w : Verdict) → JudgedAs R r m v → JudgedAs S r m w → (word v ≡ word w) × (missed_of v ≡ Nothing → missed_of w ≡ Nothing)
+  moves_alike : (m : Move) (v w : Verdict) → JudgedAs R r m v → JudgedAs S r m w → (word v ≡ word w) × (missed_of v ≡ None → missed_of w ≡ None)
   unfolding word missed_of
   moves_alike m (Dead f) (Dead g) h k = (refl, λ e. none_too (MissedIn r m) g (found_none R (MissedIn r m) h.1 e) k.1)
   moves_alike m (Dead f) (False p) h k = absurd (h.0 p k.1.is)

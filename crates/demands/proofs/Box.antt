@@ -1,16 +1,19 @@
 -- What is promised of the box, proved: where its names lead, when a name is refused, that answer and box are determined, what a refusal can be, and that
 -- the first bytes of a longer sheet or name are enough. Assumes nothing.
+use Rattle.std.proofs.Common.{Ok, Err, Result}
 use mathlib.Core.Bool.{true}
 use mathlib.Core.List.{List, [], ◌∷◌}
-use mathlib.Core.Logic.{◌↔◌, inl, inr, ⊎_elim}
+use mathlib.Core.Logic.{◌↔◌, inl, inr}
 use mathlib.Core.Path.{◌≡◌, refl, sym, ap, ◌∙◌}
-use Prim.Native.Nat.{ℕ, ◌≤◌}
+use Prim.Native.Nat.{ℕ}
 use native.Mathlib.Omega.{arith}
 use lib.ListN.{length, take, length-take}
 use lib.Seq.{take_all}
 use Rattle.fields.specs.Bytes.{is_action}
+use Rattle.refusals.specs.declared.Reason.TheVariants as because
 use Rattle.refusals.specs.declared.Refusal.{Refusal}
 use Rattle.refusals.specs.Refusal.{refusal}
+use Rattle.refusals.proofs.Numbers.{no_done_row, one_refusal}
 use Rattle.values.proofs.Names.{action_names}
 use Rattle.sheet.specs.Sheet.{Sheet}
 use Rattle.sheet.specs.Reading.{kept, read_sheet}
@@ -18,15 +21,13 @@ use Rattle.sheet.specs.Accepted.{Accepted}
 use Rattle.sheet.proofs.Accepted.{accepted, good_move, refused_number}
 use Rattle.family.specs.Ways.{Reached, begin, by}
 use Rattle.running.specs.declared.RunningBox.{RunningBox}
-use Rattle.running.specs.declared.Answer.{Answer as BoxAnswer}
-use Rattle.running.specs.declared.Answer.TheVariants as box
 use Rattle.running.specs.Ways.{Ends, Carries, none, more}
 use Rattle.running.specs.Promise.{nowhere, SetsUp, Acts}
 use Rattle.running.specs.Shown.{row_of as box_row}
 use Rattle.running.proofs.Determined.{same_sheet, set_up_once, act_once}
 use Rattle.running.proofs.Leading.{Led, led, done_way, refused_no_way, nowhere_led}
 use Rattle.demands.specs.Demands.{BoxIsWhereItsNamesLead, NameRefusedIfNoWay, NamesLeadWhereItReaches, SetUpDetermined, ActDetermined, RefusedSetUpRefuses, BoxTableRefuses, SetUpRefusals, ActRefusals, SetUpTold, ActTold, SetUpCut, ActCut}
-use Rattle.demands.proofs.Refusals.{not_done, cut_same}
+use Rattle.demands.proofs.Refusals.{cut_same}
 
 -- ---- where the names lead
 
@@ -34,11 +35,8 @@ pub box_is_where_its_names_lead : BoxIsWhereItsNamesLead
 box_is_where_its_names_lead s p names b run = let (r, e, x) = led run in (r, e, x.valid, x.product, x.place)
 
 -- a done answer is no refusal
-done_refused : {q : Refusal} → box.Done ≡ box.Refused q → ⊥
+done_refused : {q : Refusal} → ◌≡◌ {A = Result (Unit {0}) Refusal} (Ok tt) (Err q) → ⊥
 done_refused e = let z : ◌≡◌ {A = ℕ} 0 1 = cc in omega arith
-
-refusals_same : {p q : Refusal} → box.Refused p ≡ box.Refused q → p ≡ q
-refusals_same e = cc
 
 module _ (s : List ℕ) {p : ℕ} {names : List (List ℕ)} {b : RunningBox} {r : Sheet} (e : read_sheet s ≡ kept r) (x : Led r p names b) (name : List ℕ) where
   abbrev Way : Type 0
@@ -47,13 +45,13 @@ module _ (s : List ℕ) {p : ℕ} {names : List (List ℕ)} {b : RunningBox} {r 
   abbrev NoWay : Type 0
   NoWay = (q : ℕ) → Carries r p (name ∷ names) q → ⊥
 
-  by_ways : (a : BoxAnswer) (after : RunningBox) → Acts s b name a after → ((a ≡ box.Done) ↔ Way) × ((a ≡ box.Refused (refusal 19 0 0)) ↔ NoWay)
-  by_ways box.Done after h =
+  by_ways : (a : Result (Unit {0}) Refusal) (after : RunningBox) → Acts s b name a after → ((a ≡ Ok tt) ↔ Way) × ((a ≡ Err (refusal because.NoMove 0 0)) ↔ NoWay)
+  by_ways (Ok done) after h =
       let (q, w) = done_way s e x h in
       ((λ d. (q, w), λ z. refl), (λ d. absurd (done_refused d), λ n. absurd (n q w)))
-  by_ways (box.Refused t) after h =
+  by_ways (Err t) after h =
       let (is, n) = refused_no_way s e x h in
-      ((λ d. absurd (done_refused (sym d)), λ z. absurd (n z.0 z.1)), (λ d. n, λ z. ap box.Refused is))
+      ((λ d. absurd (done_refused (sym d)), λ z. absurd (n z.0 z.1)), (λ d. n, λ z. ap Err is))
 
 pub name_refused_if_no_way : NameRefusedIfNoWay
 name_refused_if_no_way s p names b r name a after run e h =
@@ -82,17 +80,17 @@ act_determined = act_once
 pub refused_set_up_refuses : RefusedSetUpRefuses
 refused_set_up_refuses s p q b (z, h) t name a after k = (z, stays a (rw z at k) ∙ sym z, refused_by a (rw z at k))
   where
-    stays : (a : BoxAnswer) → Acts t nowhere name a after → after ≡ nowhere
-    stays box.Done w = absurd (nowhere_led t w)
-    stays (box.Refused e) w = w.0
+    stays : (a : Result (Unit {0}) Refusal) → Acts t nowhere name a after → after ≡ nowhere
+    stays (Ok done) w = absurd (nowhere_led t w)
+    stays (Err e) w = w.0
 
-    refused_by : (a : BoxAnswer) → Acts t nowhere name a after → (e : Refusal) × (a ≡ box.Refused e)
-    refused_by box.Done w = absurd (nowhere_led t w)
-    refused_by (box.Refused e) w = (e, refl)
+    refused_by : (a : Result (Unit {0}) Refusal) → Acts t nowhere name a after → (e : Refusal) × (a ≡ Err e)
+    refused_by (Ok done) w = absurd (nowhere_led t w)
+    refused_by (Err e) w = (e, refl)
 
 pub box_table_refuses : BoxTableRefuses
 box_table_refuses s q e =
-    (λ p a b h. set_up_determined s p a (box.Refused q) b nowhere h (refl, inl e), λ b name a after h. act_determined s b name a (box.Refused q) after b h (refl, inl e))
+    (λ p a b h. set_up_determined s p a (Err q) b nowhere h (refl, inl e), λ b name a after h. act_determined s b name a (Err q) after b h (refl, inl e))
 
 -- ---- refusals
 
@@ -105,35 +103,24 @@ act_refusals s b name q after (z, inl e) = inl (refused_number s e)
 act_refusals s b name q after (z, inr (r, e, inl n)) = inr (inl n.twelve)
 act_refusals s b name q after (z, inr (r, e, inr n)) = inr (inr n.nineteen)
 
--- no refusal has number 0
-numbered : {q : Refusal} {n : ℕ} → 1 ≤ n → q ≡ refusal n 0 0 → 1 ≤ q.number
-numbered l e = let z = ap (λ (q : Refusal). q.number) e in omega arith
-
-rows_tell : (a c : BoxAnswer) → ((q : Refusal) → a ≡ box.Refused q → 1 ≤ q.number) → ((q : Refusal) → c ≡ box.Refused q → 1 ≤ q.number) → box_row a ≡ box_row c → a ≡ c
-rows_tell box.Done box.Done h k e = refl
-rows_tell box.Done (box.Refused q) h k e = absurd (not_done (k q refl) (sym e))
-rows_tell (box.Refused p) box.Done h k e = absurd (not_done (h p refl) e)
-rows_tell (box.Refused p) (box.Refused q) h k e = ap box.Refused e
-
-set_up_number : (s : List ℕ) (p : ℕ) (a : BoxAnswer) (b : RunningBox) → SetsUp s p a b → (q : Refusal) → a ≡ box.Refused q → 1 ≤ q.number
-set_up_number s p a b h q e = ⊎_elim (λ n. n.0) (numbered (omega arith)) (set_up_refusals s p q b (rw e at h))
-
-act_number : (s : List ℕ) (b : RunningBox) (name : List ℕ) (a : BoxAnswer) (after : RunningBox) → Acts s b name a after → (q : Refusal) → a ≡ box.Refused q → 1 ≤ q.number
-act_number s b name a after h q e =
-    ⊎_elim (λ n. n.0) (λ n. ⊎_elim (numbered (omega arith)) (numbered (omega arith)) n) (act_refusals s b name q after (rw e at h))
+rows_tell : (a c : Result (Unit {0}) Refusal) → box_row a ≡ box_row c → a ≡ c
+rows_tell (Ok a) (Ok c) e = refl
+rows_tell (Ok a) (Err q) e = absurd (no_done_row q (sym e))
+rows_tell (Err p) (Ok c) e = absurd (no_done_row p e)
+rows_tell (Err p) (Err q) e = ap Err (one_refusal p q e)
 
 pub set_up_told : SetUpTold
-set_up_told s t p m a c b d h k e = rows_tell a c (set_up_number s p a b h) (set_up_number t m c d k) e
+set_up_told s t p m a c b d h k e = rows_tell a c e
 
 pub act_told : ActTold
-act_told s t b d name other a c x y h k e = rows_tell a c (act_number s b name a x h) (act_number t d other c y k) e
+act_told s t b d name other a c x y h k e = rows_tell a c e
 
 -- ---- a longer sheet, and a longer name
 
-set_up_as : (s t : List ℕ) → read_sheet s ≡ read_sheet t → (p : ℕ) (a : BoxAnswer) (b : RunningBox) → SetsUp s p a b → SetsUp t p a b
-set_up_as s t e p box.Done b (r, f, h) = (r, sym e ∙ f, h)
-set_up_as s t e p (box.Refused q) b (z, inl f) = (z, inl (sym e ∙ f))
-set_up_as s t e p (box.Refused q) b (z, inr (r, f, h)) = (z, inr (r, sym e ∙ f, h))
+set_up_as : (s t : List ℕ) → read_sheet s ≡ read_sheet t → (p : ℕ) (a : Result (Unit {0}) Refusal) (b : RunningBox) → SetsUp s p a b → SetsUp t p a b
+set_up_as s t e p (Ok done) b (r, f, h) = (r, sym e ∙ f, h)
+set_up_as s t e p (Err q) b (z, inl f) = (z, inl (sym e ∙ f))
+set_up_as s t e p (Err q) b (z, inr (r, f, h)) = (z, inr (r, sym e ∙ f, h))
 
 pub set_up_cut : SetUpCut
 set_up_cut s p a b = (set_up_as (take 65537 s) s (cut_same s) p a b, set_up_as s (take 65537 s) (sym (cut_same s)) p a b)
@@ -148,9 +135,9 @@ action_cut x name a =
     let short = (action_names x a).2 in
     (λ e. e ∙ take_all 25 name (omega (arith, ap length e, length-take 25 name)), λ e. e ∙ sym (take_all 25 name (omega (arith, ap length e))))
 
-act_as : (s t : List ℕ) → read_sheet s ≡ read_sheet t → (b : RunningBox) (x y : List ℕ) → SameEnds x y → SameEnds y x → (a : BoxAnswer) (after : RunningBox)
+act_as : (s t : List ℕ) → read_sheet s ≡ read_sheet t → (b : RunningBox) (x y : List ℕ) → SameEnds x y → SameEnds y x → (a : Result (Unit {0}) Refusal) (after : RunningBox)
     → Acts s b x a after → Acts t b y a after
-act_as s t e b x y there back box.Done after (r, f, h) =
+act_as s t e b x y there back (Ok done) after (r, f, h) =
     let ok = accepted s f in (
       r,
       sym e ∙ f,
@@ -161,9 +148,9 @@ act_as s t e b x y there back box.Done after (r, f, h) =
         place = record { only = λ q i. there r ok b q (h.place.only q i); every = λ q i. h.place.every q (back r ok b q i) };
       },
     )
-act_as s t e b x y there back (box.Refused q) after (z, inl f) = (z, inl (sym e ∙ f))
-act_as s t e b x y there back (box.Refused q) after (z, inr (r, f, inl n)) = (z, inr (r, sym e ∙ f, inl n))
-act_as s t e b x y there back (box.Refused q) after (z, inr (r, f, inr n)) =
+act_as s t e b x y there back (Err q) after (z, inl f) = (z, inl (sym e ∙ f))
+act_as s t e b x y there back (Err q) after (z, inr (r, f, inl n)) = (z, inr (r, sym e ∙ f, inl n))
+act_as s t e b x y there back (Err q) after (z, inr (r, f, inr n)) =
     (z, inr (r, sym e ∙ f, inr (record { nineteen = n.nineteen; valid = n.valid; nothing = λ to i. n.nothing to (back r (accepted s f) b to i) })))
 
 pub act_cut : ActCut

@@ -1,5 +1,6 @@
 -- The worked example of document 01, "One sheet in full": what is true of its sheet, by hand. Products 1, 2 and 3 are valid; in each of them
 -- states 0, 1 and 2 are reached, by as many moves at least, and no other state, since the guard of `level` never holds. Assumes nothing.
+use Rattle.std.proofs.Common.{Some, None}
 use mathlib.Core.Bool.{true}
 use mathlib.Core.List.Memᴰ
 use mathlib.Core.List.{Memᴰ}
@@ -9,7 +10,6 @@ use native.Mathlib.Omega.{arith}
 use borrow.Author.Tests.{ltb-true}
 use lib.Dec.{eqb, ltb}
 use Rattle.products.specs.Sets.{bit}
-use Rattle.products.specs.declared.Found.TheVariants.{At, Nothing}
 use Rattle.fields.specs.Bytes.{same_bytes, all_name_bytes, is_name, is_action, read_state, run, after_run}
 use Rattle.fields.specs.Cutting.{cut}
 use Rattle.products.specs.declared.Order.{Order}
@@ -183,13 +183,13 @@ calm_judged o = (
     later : (q : ℕ) → Valid dish q → MissedIn dish calm q → Before o 2 q
     later = valid_each (λ q. MissedIn dish calm q → Before o 2 q) (λ h. absurd (h.unmade calm_in_one.makes)) (λ h. (two_next o).0) (λ h. (two_next o).1)
 
-pub level_judged : (o : Order) → JudgedAs (Before o) dish level (Dead (At 1))
+pub level_judged : (o : Order) → JudgedAs (Before o) dish level (Dead (Some 1))
 level_judged o = (
   (λ p h. level_never p h.makes.held),
   record { is = record { valid = valid_one; reached = reached_one valid_one; unmade = λ m. level_never 1 m.held }; first = λ q h. one_first o q h.valid },
 )
 
-pub done_judged : (o : Order) → JudgedAs (Before o) dish done (Dead Nothing)
+pub done_judged : (o : Order) → JudgedAs (Before o) dish done (Dead None)
 done_judged o = ((λ p h. unreached_three h.makes.reached), (λ q h. unreached_three h.reached))
 
 -- ---- states 2 and 3

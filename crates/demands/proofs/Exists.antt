@@ -1,5 +1,6 @@
 -- Every accepted sheet has a report and a clean sheet. Each verdict is one of its cases by what is decided of products; the clean sheet's moves are put
 -- in order one after another, its stop lines go state by state, and a decided set of products has a guard. Assumes nothing.
+use Rattle.std.proofs.Common.{Option, Some, None}
 use mathlib.Core.Bool.{Bool, true, false, decide, decide_iff}
 use mathlib.Core.List.Memᴰ
 use mathlib.Core.List.{List, [], ◌∷◌, ◌++◌, Memᴰ, List-discrete}
@@ -9,8 +10,6 @@ use mathlib.Core.Path.{◌≡◌, refl}
 use Prim.Native.Nat.{ℕ, zero, suc, ◌<◌}
 use native.Mathlib.Decide.{ℕ_discrete}
 use native.Mathlib.Omega.{arith}
-use Rattle.products.specs.declared.Found.{Found}
-use Rattle.products.specs.declared.Found.TheVariants.{At, Nothing}
 use Rattle.products.specs.Sets.{Finds}
 use Rattle.products.proofs.Ordered.{before_total, before_on}
 use Rattle.guards.specs.Guard.{Guard, always}
@@ -50,40 +49,40 @@ counted {P} dec (suc n) = go (dec n) (counted dec n)
 
 module _ {R : ℕ → ℕ → Type 0} (total : (a b : ℕ) → R a b ⊎ R b a) (trans : (a b c : ℕ) → R a b → R b c → R a c) {r : Sheet} (ok : Accepted r) where
   -- the first product with a property that only valid products have
-  first : {P : ℕ → Type 0} → ((p : ℕ) → Dec (P p)) → ((p : ℕ) → P p → Valid r p) → (f : Found) × Finds R P f
+  first : {P : ℕ → Type 0} → ((p : ℕ) → Dec (P p)) → ((p : ℕ) → P p → Valid r p) → (f : Option ℕ) × Finds R P f
   first {P} dec valid = go (search_below total trans dec 1024)
     where
-      go : Search R P 1024 → (f : Found) × Finds R P f
-      go (inl (p, f)) = (At p, record { is = f.is; first = λ q h. f.first q (product_small ok (valid q h)) h })
-      go (inr f) = (Nothing, λ q h. f q (product_small ok (valid q h)) h)
+      go : Search R P 1024 → (f : Option ℕ) × Finds R P f
+      go (inl (p, f)) = (Some p, record { is = f.is; first = λ q h. f.first q (product_small ok (valid q h)) h })
+      go (inr f) = (None, λ q h. f q (product_small ok (valid q h)) h)
 
   pub move_verdict : (m : Move) → (v : Verdict) × JudgedAs R r m v
   move_verdict m = go (first (dec_made ok m) (λ p i. i.valid)) (first (dec_missed ok m) (λ p i. i.valid)) (dec_fails r m.guard)
     where
-      go : (f : Found) × Finds R (MadeIn r m) f → (f : Found) × Finds R (MissedIn r m) f → Dec (FailsInSome r m.guard)
+      go : (f : Option ℕ) × Finds R (MadeIn r m) f → (f : Option ℕ) × Finds R (MissedIn r m) f → Dec (FailsInSome r m.guard)
           → (v : Verdict) × JudgedAs R r m v
-      go (Nothing, n) (f, k) a = (Dead f, (n, k))
-      go (At p, l) (f, k) (no o) = (Must p, (holds_unless r m.guard o, l))
-      go (At p, l) (Nothing, n) (yes z) = (False p, (record { alive = (p, l.is); fails = z; every = made_by_all ok n }, l))
-      go (At p, l) (At q, k) (yes z) = (May p q, (l, k))
+      go (None, n) (f, k) a = (Dead f, (n, k))
+      go (Some p, l) (f, k) (no o) = (Must p, (holds_unless r m.guard o, l))
+      go (Some p, l) (None, n) (yes z) = (False p, (record { alive = (p, l.is); fails = z; every = made_by_all ok n }, l))
+      go (Some p, l) (Some q, k) (yes z) = (May p q, (l, k))
 
   pub state_verdict : (q : ℕ) → (v : StateVerdict) × StateAs R r q v
   state_verdict q = go (first (dec_reached_in ok q) (λ p i. i.valid)) (dec_leads_out ok q) (first (dec_stuck ok q) (λ p i. i.valid))
     where
-      go : (f : Found) × Finds R (ReachedIn r q) f → Dec ((m : Move) × LeadsOut r q m) → (f : Found) × Finds R (Stuck r q) f
+      go : (f : Option ℕ) × Finds R (ReachedIn r q) f → Dec ((m : Move) × LeadsOut r q m) → (f : Option ℕ) × Finds R (Stuck r q) f
           → (v : StateVerdict) × StateAs R r q v
-      go (Nothing, n) d s = (Unreached, n)
-      go (At p, l) (no o) s = (End, ((p, l.is), λ m i. o (m, i)))
-      go (At p, l) (yes z) (At k, s) = (Hidden k, (z, s))
-      go (At p, l) (yes z) (Nothing, n) = (Live, ((p, l.is), z, n))
+      go (None, n) d s = (Unreached, n)
+      go (Some p, l) (no o) s = (End, ((p, l.is), λ m i. o (m, i)))
+      go (Some p, l) (yes z) (Some k, s) = (Hidden k, (z, s))
+      go (Some p, l) (yes z) (None, n) = (Live, ((p, l.is), z, n))
 
   pub stop_verdict : (d : Stop) → (v : StopVerdict) × StopAs R r d v
   stop_verdict d = go (first (dec_untrue ok d) (λ p i. i.declares.valid)) (first (dec_declares ok d) (λ p i. i.valid))
     where
-      go : (f : Found) × Finds R (UntrueIn r d) f → (f : Found) × Finds R (Declares r d) f → (v : StopVerdict) × StopAs R r d v
-      go (At p, l) f = (Untrue p, l)
-      go (Nothing, n) (Nothing, k) = (Idle, k)
-      go (Nothing, n) (At p, l) = (True, ((p, l.is), n))
+      go : (f : Option ℕ) × Finds R (UntrueIn r d) f → (f : Option ℕ) × Finds R (Declares r d) f → (v : StopVerdict) × StopAs R r d v
+      go (Some p, l) f = (Untrue p, l)
+      go (None, n) (None, k) = (Idle, k)
+      go (None, n) (Some p, l) = (True, ((p, l.is), n))
 
   move_rows : (ms : List Move) → (x : List ℕ) × MoveRows R r ms x
   move_rows [] = ([], MoveRows.none)

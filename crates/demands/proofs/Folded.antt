@@ -1,4 +1,5 @@
 -- The boat that folds its dish and never raises it again: the moves of document 01's sheet, one by one. Assumes nothing.
+use Rattle.std.proofs.Common.{Ok, Err}
 use mathlib.Core.Bool.{true}
 use mathlib.Core.List.{List, ◌∷◌, Memᴰ}
 use mathlib.Core.Logic.{inr}
@@ -11,11 +12,11 @@ use lib.ListN.{get_or}
 use Rattle.products.specs.Sets.{one_if}
 use Rattle.products.proofs.Bits.{power_bit}
 use Rattle.products.proofs.Laws.{one_true}
+use Rattle.refusals.specs.declared.Reason.TheVariants as because
 use Rattle.refusals.specs.Refusal.{refusal}
 use Rattle.guards.specs.Guard.{holds, parts_hold}
 use Rattle.sheet.specs.Sheet.{Move}
 use Rattle.running.specs.declared.RunningBox.{RunningBox}
-use Rattle.running.specs.declared.Answer.TheVariants as box
 use Rattle.running.specs.Ways.{Stands, Ends, Carries, none, more}
 use Rattle.running.specs.Promise.{SetsUp, Acts}
 use Rattle.running.specs.Runs.{set_up, went}
@@ -78,20 +79,20 @@ pub boat_folds : BoatFolds
 unfolding holds parts_hold
 boat_folds = (boat_in 2, went (went (set_up begun) raised) stowed)
   where
-    begun : SetsUp dish_text 2 box.Done (boat_in 0)
+    begun : SetsUp dish_text 2 (Ok tt) (boat_in 0)
     begun = (dish, dish_read, record { valid = refl; product = refl; place = alone 2 0 refl (λ q e. e) })
 
     raise_end : Ends dish (boat_in 0) (bytes "raise") 1
     raise_end = record { move = raise; listed = has_raise; named = refl; from = record { is = refl }; makes = refl; to = refl }
 
-    raised : Acts dish_text (boat_in 0) (bytes "raise") box.Done (boat_in 1)
+    raised : Acts dish_text (boat_in 0) (bytes "raise") (Ok tt) (boat_in 1)
     raised =
         (dish, dish_read, record { valid = refl; some = (1, raise_end); product = refl; place = alone 2 1 raise_end (λ q e. sym e.to ∙ raise_ends e.listed e.named) })
 
     stow_end : Ends dish (boat_in 1) (bytes "stow") 2
     stow_end = record { move = stow; listed = has_stow; named = refl; from = record { is = refl }; makes = refl; to = refl }
 
-    stowed : Acts dish_text (boat_in 1) (bytes "stow") box.Done (boat_in 2)
+    stowed : Acts dish_text (boat_in 1) (bytes "stow") (Ok tt) (boat_in 2)
     stowed =
         (dish, dish_read, record { valid = refl; some = (2, stow_end); product = refl; place = alone 2 2 stow_end (λ q e. sym e.to ∙ stow_ends e.listed e.named) })
 
@@ -104,7 +105,7 @@ boat_stays_folded b run = (stands, refuses)
     stands : Stands b (λ q. q ≡ 2)
     stands = record { only = λ q i. only_there (there.place.only q i); every = λ q e. rw e (there.place.every 2 way_there) }
 
-    refuses : (name : List ℕ) → Acts dish_text b name (box.Refused (refusal 19 0 0)) b
+    refuses : (name : List ℕ) → Acts dish_text b name (Err (refusal because.NoMove 0 0)) b
     refuses name = (
       refl,
       inr (

@@ -1,5 +1,6 @@
 -- "A way pieced together from several products. With feature a, all valid, 0 to 1 under `a` and 1 to 2 under `!a`: the second move is dead (made `-`,
 -- missed 1)." A product that gets beyond state 0 has the feature a, and the second move wants that it has not. Assumes nothing.
+use Rattle.std.proofs.Common.{Some}
 use mathlib.Core.Bool.{Bool, true, false, not}
 use mathlib.Core.List.Memᴰ
 use mathlib.Core.Path.{◌≡◌, refl}
@@ -7,7 +8,6 @@ use Prim.Native.Nat.{ℕ, zero, suc, ◌≤◌, ◌<◌}
 use native.Mathlib.Omega.{arith}
 use borrow.Author.Tests.{ltb-true}
 use lib.Dec.{ltb}
-use Rattle.products.specs.declared.Found.TheVariants.{At}
 use Rattle.products.specs.declared.Order.{Order}
 use Rattle.products.specs.Orders.{Before}
 use Rattle.products.proofs.Ordered.{before_self}
@@ -75,5 +75,5 @@ missed_first o q h =
     let e : q ≡ 1 = omega (arith, missed_later q h) in
     rw e (before_self o 1)
 
-pub second_judged : (o : Order) → JudgedAs (Before o) pieced second (Dead (At 1))
+pub second_judged : (o : Order) → JudgedAs (Before o) pieced second (Dead (Some 1))
 second_judged o = ((λ p h. unmade h.makes), record { is = record { valid = one_valid; reached = reached_one; unmade = unmade }; first = missed_first o })

@@ -1,5 +1,6 @@
 -- Spelling isn't meaning: line for line the guards hold in the same products, so each valid product has the same ways in both sheets, and with the ways go
 -- depth, moves, verdicts and rows, and what the calls promise. Each law goes from one sheet to the other, and `turned` gives the way back. Assumes nothing.
+use Rattle.std.proofs.Common.{Result, Ok, Err}
 use mathlib.Core.Path.{◌≡◌, refl, sym, ap, subst, ◌∙◌}
 use mathlib.Core.Bool.{Bool, true, false, not, ◌||◌}
 use mathlib.Core.List.{List, Memᴰ}
@@ -31,10 +32,6 @@ use Rattle.reporting.specs.Report.{MoveRows, StateRows, StopRows, IsReport}
 use Rattle.normal.specs.Behaviour.{Goes, Same}
 use Rattle.normal.specs.Clean.{IsClean}
 use Rattle.normal.proofs.Carry.{carry}
-use Rattle.calls.specs.declared.Answer.{Answer}
-use Rattle.calls.specs.declared.Answer.TheVariants as one
-use Rattle.calls.specs.declared.Answers.{Answers}
-use Rattle.calls.specs.declared.Answers.TheVariants as two
 use Rattle.calls.specs.Promise.{Filled, TooLong, Fits, OneText, nothing, ReportPromise, clean_most, CleanPromise, BothPromise}
 use Rattle.calls.proofs.Promised.{kept_one, report_promise_determined, clean_promise_determined, both_promise_determined}
 use Rattle.demands.specs.Respelled.{MoveAlike, StopAlike, Paired, Respelled}
@@ -297,19 +294,19 @@ module _ (s t : List ℕ) {r q : Sheet} (e : read_sheet s ≡ kept r) (f : read_
   as_read : (Is : Sheet → List ℕ → Type 0) {k : Sheet} → ((x : List ℕ) → Is r x → Is q x) → read_sheet s ≡ kept k → (x : List ℕ) → Is k x → Is q x
   as_read Is c h x i = c x (subst (λ (k : Sheet). Is k x) (kept_one s h e) i)
 
-  one_too : (Is : Sheet → List ℕ → Type 0) (most : ℕ) → ((x : List ℕ) → Is r x → Is q x) → (room x : List ℕ) (a : Answer)
+  one_too : (Is : Sheet → List ℕ → Type 0) (most : ℕ) → ((x : List ℕ) → Is r x → Is q x) → (room x : List ℕ) (a : Result ℕ Refusal)
       → OneText nothing Is most s room x a → OneText nothing Is most t room x a
-  one_too Is most c room x (one.Done n) (k, h, p) = (q, f, filled_too (as_read Is c h) p)
-  one_too Is most c room x (one.Refused d) (h, inl k) = absurd (kept_refused s e k)
-  one_too Is most c room x (one.Refused d) (h, inr (k, g, inl z)) = absurd z
-  one_too Is most c room x (one.Refused d) (h, inr (k, g, inr z)) = (h, inr (q, f, inr (long_too (as_read Is c g) z)))
+  one_too Is most c room x (Ok n) (k, h, p) = (q, f, filled_too (as_read Is c h) p)
+  one_too Is most c room x (Err d) (h, inl k) = absurd (kept_refused s e k)
+  one_too Is most c room x (Err d) (h, inr (k, g, inl z)) = absurd z
+  one_too Is most c room x (Err d) (h, inr (k, g, inr z)) = (h, inr (q, f, inr (long_too (as_read Is c g) z)))
 
-  both_too : ((x : List ℕ) → IsReport (Before Plainest) r x → IsReport (Before Plainest) q x) → ((x : List ℕ) → IsClean r x → IsClean q x) → (room x clean u : List ℕ) (a : Answers)
+  both_too : ((x : List ℕ) → IsReport (Before Plainest) r x → IsReport (Before Plainest) q x) → ((x : List ℕ) → IsClean r x → IsClean q x) → (room x clean u : List ℕ) (a : Result (ℕ × ℕ) Refusal)
       → BothPromise s room x clean u a → BothPromise t room x clean u a
-  both_too c d room x clean u (two.Done n m) (k, h, p, l) = (q, f, filled_too (as_read (IsReport (Before Plainest)) c h) p, filled_too (as_read IsClean d h) l)
-  both_too c d room x clean u (two.Refused o) (h, i, inl k) = absurd (kept_refused s e k)
-  both_too c d room x clean u (two.Refused o) (h, i, inr (k, g, inl z)) = (h, i, inr (q, f, inl (long_too (as_read (IsReport (Before Plainest)) c g) z)))
-  both_too c d room x clean u (two.Refused o) (h, i, inr (k, g, inr (w, z))) =
+  both_too c d room x clean u (Ok (n, m)) (k, h, p, l) = (q, f, filled_too (as_read (IsReport (Before Plainest)) c h) p, filled_too (as_read IsClean d h) l)
+  both_too c d room x clean u (Err o) (h, i, inl k) = absurd (kept_refused s e k)
+  both_too c d room x clean u (Err o) (h, i, inr (k, g, inl z)) = (h, i, inr (q, f, inl (long_too (as_read (IsReport (Before Plainest)) c g) z)))
+  both_too c d room x clean u (Err o) (h, i, inr (k, g, inr (w, z))) =
       (h, i, inr (q, f, inr (fits_too (as_read (IsReport (Before Plainest)) c g) w, long_too (as_read IsClean d g) z)))
 
 pub respelled_report : (o : Order) → SameAnswer (ReportPromise o)

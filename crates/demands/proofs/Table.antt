@@ -1,8 +1,8 @@
 -- The table of worked examples is true: each row by what Dish, Pieced and Three show of its sheet, its bytes by computing. Assumes nothing.
+use Rattle.std.proofs.Common.{Some, None}
 use mathlib.Core.List.{List, [], ◌∷◌, ◌++◌}
 use mathlib.Core.Path.{◌≡◌, refl, subst}
 use Prim.Native.Nat.{ℕ}
-use Rattle.products.specs.declared.Found.TheVariants.{At, Nothing}
 use Rattle.products.specs.declared.Order.{Order}
 use Rattle.products.specs.Orders.{Before}
 use Rattle.text.specs.Text.{digits, decimal}
@@ -20,7 +20,7 @@ use Rattle.demands.proofs.Three.{three_read, zero_end, zero_counted, three_depth
 
 -- the five rows one behind another, as `MoveRows` makes them
 five : List ℕ
-five = (((([] ++ move_row 6 (False 1)) ++ move_row 7 (Must 1)) ++ move_row 8 (May 1 2)) ++ move_row 9 (Dead (At 1))) ++ move_row 10 (Dead Nothing)
+five = (((([] ++ move_row 6 (False 1)) ++ move_row 7 (Must 1)) ++ move_row 8 (May 1 2)) ++ move_row 9 (Dead (Some 1))) ++ move_row 10 (Dead None)
 
 five_printed : five ≡ printed ("move\t6\tfalse\t1\t-" ∷ "move\t7\tmust\t1\t-" ∷ "move\t8\tmay\t1\t2" ∷ "move\t9\tdead\t-\t1" ∷ "move\t10\tdead\t-\t-" ∷ [])
 unfolding five onto printed digits decimal found_text word made_of missed_of move_row
@@ -29,8 +29,8 @@ five_printed = refl
 five_rows : (o : Order) → MoveRows (Before o) dish dish.moves five
 unfolding five
 five_rows o =
-    rows.next (Dead Nothing) (done_judged o)
-    (rows.next (Dead (At 1)) (level_judged o) (rows.next (May 1 2) (calm_judged o) (rows.next (Must 1) (stow_judged o) (rows.next (False 1) (raise_judged o) rows.none))))
+    rows.next (Dead None) (done_judged o)
+    (rows.next (Dead (Some 1)) (level_judged o) (rows.next (May 1 2) (calm_judged o) (rows.next (Must 1) (stow_judged o) (rows.next (False 1) (raise_judged o) rows.none))))
 
 pub the_table : (o : Order) → TheTable o
 unfolding onto bytes printed digits decimal found_text word made_of missed_of state_word hidden_of move_row state_row depth_row name_of print names

@@ -1,9 +1,8 @@
 -- The table of document 01, "Proved together as a single table: the five move rows, states 2 and 3, the depth, the `valid` and `stop` guards above,
 -- the pieced-together way, and the sheet `fts 1`, `valid 1`, `start 0`". Each field is a statement over `read_sheet` and the definitions of the
 -- verdicts, under a comment with the row as 01 prints it; the rows are the same in either order. Assumes nothing: these are definitions.
-use Rattle.std.specs.Prelude.{[], ◌∷◌, ◌≡◌, ℕ, ◌<◌}
+use Rattle.std.specs.Prelude.{[], ◌∷◌, ◌≡◌, ℕ, ◌<◌, Some, None}
 use Prim.Native.String.{String}
-use Rattle.products.specs.declared.Found.TheVariants.{At, Nothing}
 use Rattle.products.specs.declared.Order.{Order}
 use Rattle.products.specs.Orders.{Before}
 use Rattle.guards.specs.Guard.{Guard, print}
@@ -62,9 +61,9 @@ pub record TheTable (o : Order) : Type 0 where
   -- move→8→may→1→2
   pub move_8 : MoveLine o dish calm (May 1 2) "move\t8\tmay\t1\t2"
   -- move→9→dead→-→1
-  pub move_9 : MoveLine o dish level (Dead (At 1)) "move\t9\tdead\t-\t1"
+  pub move_9 : MoveLine o dish level (Dead (Some 1)) "move\t9\tdead\t-\t1"
   -- move→10→dead→-→-
-  pub move_10 : MoveLine o dish done (Dead Nothing) "move\t10\tdead\t-\t-"
+  pub move_10 : MoveLine o dish done (Dead None) "move\t10\tdead\t-\t-"
   -- the five, as the report has them
   pub moves :
       MoveRows (Before o) dish dish.moves
@@ -91,7 +90,7 @@ pub record TheTable (o : Order) : Type 0 where
   -- "all valid"
   pub pieced_valid : (p : ℕ) → p < 2 → Valid pieced p
   -- move→6→dead→-→1
-  pub pieced_move : MoveLine o pieced second (Dead (At 1)) "move\t6\tdead\t-\t1"
+  pub pieced_move : MoveLine o pieced second (Dead (Some 1)) "move\t6\tdead\t-\t1"
   -- fts→1
   -- valid→1
   -- start→0

@@ -6,25 +6,27 @@ ghost use Rattle.products.specs.declared.Order.{Order};
 ghost use Rattle.calls.specs.Promise.{ReportPromise, CleanPromise, BothPromise};
 ghost use Rattle.running.specs.Promise.{SetsUp, Acts};
 
+use refusals::Refusal;
+
 // Report promise: for every sheet and every room, refused with the table's number, line and place and
 // every byte of the room kept; or 11, every byte kept, exactly if the report is longer than the room; or
 // done with its length, the first bytes the report of this sheet and the rest kept. Each product in it is
 // the plainest.
-pub fn report_promise(text: &[u8], room: &mut [u8]) -> calls::Answer
+pub fn report_promise(text: &[u8], room: &mut [u8]) -> Result<usize, Refusal>
     ensures { ReportPromise Order.Plainest text.now room.old room.new result }
 {
     calls::report(text, room)
 }
 
 // Report promise, by number: the same, and each product is the one with the smallest number.
-pub fn report_by_number_promise(text: &[u8], room: &mut [u8]) -> calls::Answer
+pub fn report_by_number_promise(text: &[u8], room: &mut [u8]) -> Result<usize, Refusal>
     ensures { ReportPromise Order.ByNumber text.now room.old room.new result }
 {
     calls::report_by_number(text, room)
 }
 
 // Clean promise: the same of the clean sheet, with 11 also where it is longer than 65,536 bytes.
-pub fn clean_promise(text: &[u8], room: &mut [u8]) -> calls::Answer
+pub fn clean_promise(text: &[u8], room: &mut [u8]) -> Result<usize, Refusal>
     ensures { CleanPromise text.now room.old room.new result }
 {
     calls::clean(text, room)
@@ -33,7 +35,11 @@ pub fn clean_promise(text: &[u8], room: &mut [u8]) -> calls::Answer
 // Both promise: the same of both texts, each in its room; 11 speaks of line 1 if the report is longer than
 // its room, else of line 2 if the clean sheet is longer than its own or than 65,536 bytes, and then both
 // rooms keep every byte.
-pub fn both_promise(text: &[u8], room: &mut [u8], clean_room: &mut [u8]) -> calls::Answers
+pub fn both_promise(
+    text: &[u8],
+    room: &mut [u8],
+    clean_room: &mut [u8],
+) -> Result<(usize, usize), Refusal>
     ensures { BothPromise text.now room.old room.new clean_room.old clean_room.new result }
 {
     calls::report_and_clean(text, room, clean_room)

@@ -1,12 +1,9 @@
 -- The promises determine the answers: two answers that meet one promise for the same input are equal.
 -- The promises that are not named here are equations, and determine their answers by themselves. Assumes nothing.
-use Rattle.std.proofs.Common.{◌≡◌, ℕ, ◌+◌, ◌<◌, ◌≤◌, Bool, true, false, List, length, drop, refl, ap, arith, length-drop}
-use Rattle.fields.specs.declared.TwoFields.{TwoFields}
-use Rattle.fields.specs.declared.TwoFields.TheVariants.{Parted, NotTwo}
-use Rattle.fields.specs.declared.FourFields.{FourFields}
-use Rattle.fields.specs.declared.FourFields.TheVariants.{Ends, NotFour}
+use Rattle.std.proofs.Common.{◌≡◌, ℕ, ◌+◌, ◌<◌, ◌≤◌, Bool, true, false, List, length, drop, refl, ap, arith, length-drop, Option, Some, None}
 use Rattle.fields.specs.Bytes.{part, FirstAt, RunEnd}
-use Rattle.fields.specs.Cutting.{IsOne, CutsTwo, CutsFour}
+use Rattle.fields.specs.declared.Tabs.{Tabs}
+use Rattle.fields.specs.Cutting.{IsOne, CutsTwo, CutsFour, tabs}
 use Rattle.fields.proofs.Parts.{part_length}
 
 -- neither of two first places lies before the other
@@ -37,23 +34,24 @@ one_determined l false true p q = let z : ◌≡◌ {A = ℕ} 0 1 = cc in absurd
 same_end : (l : List ℕ) (a b c : ℕ) → a ≤ b → a ≤ c → b ≤ length l → c ≤ length l → part l a b ≡ part l a c → b ≡ c
 same_end l a b c h k m n e = let z : length (part l a b) ≡ length (part l a c) = ap length e in omega (arith, part_length l a b m, part_length l a c n)
 
-pub two_determined : (l : List ℕ) (r t : TwoFields) → CutsTwo l r → CutsTwo l t → r ≡ t
-two_determined l (Parted b) (Parted c) p q =
+pub two_determined : (l : List ℕ) (r t : Option ℕ) → CutsTwo l r → CutsTwo l t → r ≡ t
+two_determined l (Some b) (Some c) p q =
     let e : part l 0 b ≡ part l 0 c = cc in
-    ap Parted (same_end l 0 b c (omega arith) (omega arith) (omega arith) (omega arith) e)
-two_determined l NotTwo NotTwo p q = refl
-two_determined l (Parted b) NotTwo p q = let z : ◌≡◌ {A = ℕ} 0 1 = cc in absurd (omega arith)
-two_determined l NotTwo (Parted c) p q = let z : ◌≡◌ {A = ℕ} 0 1 = cc in absurd (omega arith)
+    ap Some (same_end l 0 b c (omega arith) (omega arith) (omega arith) (omega arith) e)
+two_determined l None None p q = refl
+two_determined l (Some b) None p q = let z : ◌≡◌ {A = ℕ} 0 1 = cc in absurd (omega arith)
+two_determined l None (Some c) p q = let z : ◌≡◌ {A = ℕ} 0 1 = cc in absurd (omega arith)
 
-pub four_determined : (l : List ℕ) (r t : FourFields) → CutsFour l r → CutsFour l t → r ≡ t
-four_determined l (Ends b c d) (Ends b' c' d') p q =
-    let e : part l 0 b ≡ part l 0 b' = cc in
-    let f : b ≡ b' = same_end l 0 b b' (omega arith) (omega arith) (omega arith) (omega arith) e in
-    let g : part l (b + 1) c ≡ part l (b + 1) c' = cc in
-    let h : c ≡ c' = same_end l (b + 1) c c' (omega arith) (omega arith) (omega arith) (omega arith) g in
-    let i : part l (c + 1) d ≡ part l (c + 1) d' = cc in
-    let j : d ≡ d' = same_end l (c + 1) d d' (omega arith) (omega arith) (omega arith) (omega arith) i in
-    cc
-four_determined l NotFour NotFour p q = refl
-four_determined l (Ends b c d) NotFour p q = let z : ◌≡◌ {A = ℕ} 0 1 = cc in absurd (omega arith)
-four_determined l NotFour (Ends b c d) p q = let z : ◌≡◌ {A = ℕ} 0 1 = cc in absurd (omega arith)
+pub four_determined : (l : List ℕ) (r t : Option Tabs) → CutsFour l r → CutsFour l t → r ≡ t
+four_determined l (Some x) (Some y) p q =
+    let e : part l 0 x.first ≡ part l 0 y.first = cc in
+    let f : x.first ≡ y.first = same_end l 0 x.first y.first (omega arith) (omega arith) (omega arith) (omega arith) e in
+    let g : part l (x.first + 1) x.second ≡ part l (x.first + 1) y.second = cc in
+    let h : x.second ≡ y.second = same_end l (x.first + 1) x.second y.second (omega arith) (omega arith) (omega arith) (omega arith) g in
+    let i : part l (x.second + 1) x.third ≡ part l (x.second + 1) y.third = cc in
+    let j : x.third ≡ y.third = same_end l (x.second + 1) x.third y.third (omega arith) (omega arith) (omega arith) (omega arith) i in
+    let k : tabs x.first x.second x.third ≡ tabs y.first y.second y.third = cc in
+    ap Some k
+four_determined l None None p q = refl
+four_determined l (Some x) None p q = let z : ◌≡◌ {A = ℕ} 0 1 = cc in absurd (omega arith)
+four_determined l None (Some y) p q = let z : ◌≡◌ {A = ℕ} 0 1 = cc in absurd (omega arith)

@@ -1,37 +1,20 @@
 -- Runs of bytes compared. Assumes nothing.
-use Rattle.std.proofs.Common.{◌≡◌, ℕ, zero, suc, ◌+◌, ◌/◌, ◌<◌, ◌≤◌, min, Bool, true, false, cond, ◌&&◌, eqb, List, [], ◌∷◌, ◌++◌, length, get_or, take, drop, sym, refl, ap, ◌∙◌, subst, ap₂, add-zero, arith, length-drop, drop_of_length-le, take-suc, take-take, eq-eqb, ne_eqb, eqb-true}
-use mathlib.Core.Bool.{and-false, and-eq-true_iff}
-use lib.Bits.{bit_xor}
+use Rattle.std.proofs.Common.{◌≡◌, ℕ, zero, suc, ◌+◌, ◌/◌, ◌<◌, ◌≤◌, min, Bool, true, false, cond, ◌&&◌, eqb, List, [], ◌∷◌, ◌++◌, length, get_or, take, drop, sym, refl, ap, ◌∙◌, subst, ap₂, add-zero, arith, length-drop, take-suc, eq-eqb, ne_eqb, eqb-true, bit_xor}
+use Rattle.std.specs.Cmp.Lexicographic.{pointwise}
+use mathlib.Core.Bool.{and-eq-true_iff}
 use lib.Count.{count_trailing_zeros, trailing_of_zero, trailing_le}
 use Rattle.fields.specs.Bytes.{same_bytes, shared_bytes}
 use Rattle.fields.specs.Inside.{Digits, BeginAlike}
 use Rattle.fields.proofs.Parts.{headed}
 use Rattle.fields.proofs.Words.{digits_below}
 
--- ---- from place to place
-
-pub other_length : (x y : List ℕ) → (length x ≡ length y → ⊥) → false ≡ same_bytes x y
+-- the library's word for `==` of slices
+pub same_pointwise : (x y : List ℕ) → pointwise eqb x y ≡ same_bytes x y
 unfolding same_bytes
-other_length [] [] f = absurd (f refl)
-other_length [] (b ∷ y) f = refl
-other_length (a ∷ x) [] f = refl
-other_length (a ∷ x) (b ∷ y) f = rw (sym (other_length x y (λ e. f (ap suc e))), and-false (eqb a b))
-
-module _ (x y : List ℕ) (i : ℕ) where
-  step : i < length x → i < length y
-      → same_bytes (drop i x) (drop i y) ≡ (eqb (get_or x i 0) (get_or y i 0) && same_bytes (drop (i + 1) x) (drop (i + 1) y))
-  unfolding same_bytes
-  step h l = ap₂ same_bytes (headed x i h) (headed y i l)
-
-  pub same_more : i < length x → i < length y → get_or x i 0 ≡ get_or y i 0 → same_bytes (drop i x) (drop i y) ≡ same_bytes (drop (i + 1) x) (drop (i + 1) y)
-  same_more h l e = step h l ∙ rw (eq-eqb (get_or x i 0) (get_or y i 0) e)
-
-  pub same_stop : i < length x → i < length y → (get_or x i 0 ≡ get_or y i 0 → ⊥) → same_bytes (drop i x) (drop i y) ≡ false
-  same_stop h l f = step h l ∙ rw (ne_eqb (get_or x i 0) (get_or y i 0) f)
-
-  pub same_end : length x ≤ i → length y ≤ i → same_bytes (drop i x) (drop i y) ≡ true
-  unfolding same_bytes
-  same_end h l = rw (drop_of_length-le x h, drop_of_length-le y l)
+same_pointwise [] [] = refl
+same_pointwise [] (b ∷ y) = refl
+same_pointwise (a ∷ x) [] = refl
+same_pointwise (a ∷ x) (b ∷ y) = ap (λ (t : Bool). eqb a b && t) (same_pointwise x y)
 
 -- ---- lists that begin alike
 
@@ -50,14 +33,6 @@ pub alike_none : (x y : List ℕ) → BeginAlike x y 0
 alike_none x y = record { left = omega arith; right = omega arith; same = refl }
 
 module _ {x y : List ℕ} {n : ℕ} (a : BeginAlike x y n) where
-  -- up to any place before
-  pub alike_less : {r : ℕ} → r ≤ n → BeginAlike x y r
-  alike_less {r} h = record {
-    left = omega (arith, a.left);
-    right = omega (arith, a.right);
-    same = sym (take-take r n x h) ∙ ap (take r) a.same ∙ take-take r n y h;
-  }
-
   module _ {w v : ℕ} (d : Digits (λ k. get_or x (n + k) 0) w) (b : Digits (λ k. get_or y (n + k) 0) v) (h : n + 8 ≤ length x) (l : n + 8 ≤ length y) where
     -- up to the first of the next eight that differ, by their numbers
     pub alike_below : BeginAlike x y (n + count_trailing_zeros 64 (bit_xor w v) / 8)
@@ -146,8 +121,3 @@ same_self (a ∷ x) = rw (eq-eqb a a refl) (same_self x)
 
 pub same_false : (x y : List ℕ) → same_bytes x y ≡ false → x ≡ y → ⊥
 same_false x y e k = let z : ◌≡◌ {A = ℕ} 0 1 = cc (same_self x) in omega arith
-
-alike : (t u : Bool) → (t ≡ true → u ≡ true) → (u ≡ true → t ≡ true) → t ≡ u
-alike true u f g = sym (f refl)
-alike false true f g = g refl
-alike false false f g = refl

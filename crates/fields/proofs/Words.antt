@@ -1,9 +1,9 @@
 -- Eight bytes in one number, and the first of them that is a given byte. The number is taken apart from its lowest byte on: a byte that is passed
 -- leaves eight zeros, and the first that is found leaves a high bit with seven zeros below, whatever stands above. Assumes nothing.
-use Rattle.std.proofs.Common.{◌≡◌, ℕ, zero, suc, ◌+◌, ◌-◌, ◌*◌, ◌/◌, ◌%◌, ◌^◌, ◌<◌, sym, refl, ap, ◌∙◌, ap₂, suc-le-suc, suc-add, pow-suc, div-add-mod', zero-add, mul-one, arith}
+use Rattle.std.proofs.Common.{◌≡◌, ℕ, zero, suc, ◌+◌, ◌-◌, ◌*◌, ◌/◌, ◌%◌, ◌^◌, ◌<◌, ◌≤◌, sym, refl, ap, ◌∙◌, ap₂, suc-le-suc, suc-add, pow-suc, div-add-mod', zero-add, mul-one, arith, bit_and, bit_xor}
 use native.Mathlib.Nat.{one-le-pow}
 use lib.Arith.{mod-mul}
-use lib.Bits.{bit_and, bit_xor, and_block, xor_block, xor_lt, and_le_l, and_le_r, and_mask, and_comm, and_shifted, xor_add_and, xor_self, shifted_even, shifted_half, block_half, block_odd}
+use lib.Bits.{and_block, xor_block, xor_lt, and_le_l, and_le_r, and_mask, and_comm, and_shifted, xor_add_and, xor_self, shifted_even, shifted_half, block_half, block_odd}
 use lib.Count.{count_trailing_zeros, under}
 use Rattle.fields.specs.Inside.{word, Digits, FirstOf}
 
@@ -162,14 +162,29 @@ digits_below {f} {g} {w} {v} d b k h =
 
 -- ---- the first byte that is m
 
-pub first_marked : {f : ℕ → ℕ} {w v m : ℕ} (y : ℕ) → Digits f w → v ≡ m → v < 256 → (y + 0x0101_0101_0101_0101) % 2 ^ 64 ≡ bit_xor w (v * 0x0101_0101_0101_0101)
-    → FirstOf f m 8 (count_trailing_zeros 64 (bit_and (bit_and y (bit_xor (bit_xor w (v * 0x0101_0101_0101_0101)) 0xffff_ffff_ffff_ffff)) 0x8080_8080_8080_8080) / 8)
+word_below : (n : ℕ) (f : ℕ → ℕ) → ((k : ℕ) → f k < 256) → word f n < 256 ^ n
+word_below zero f l = omega arith
+word_below (suc n) f l = omega (arith, l 0, pow-suc 256 n, word_below n (λ k. f (suc k)) (λ k. l (suc k)))
+
+-- what a word less n and its complement are
+turned : (x n : ℕ) → x < 2 ^ 64 → n ≤ 2 ^ 64 → ((x + (2 ^ 64 - n)) % 2 ^ 64 + n) % 2 ^ 64 ≡ x
+turned x n l h = omega arith
+
+complement : (x : ℕ) → x < 2 ^ 64 → bit_xor x (2 ^ 64 - 1) ≡ 2 ^ 64 - 1 - x
+complement x l = omega (arith, xor_add_and x (2 ^ 64 - 1), and_mask x 64)
+
+pub first_marked : {f : ℕ → ℕ} {w v m : ℕ} → Digits f w → v ≡ m → m < 256
+    → (let x = bit_xor w (v * 0x0101_0101_0101_0101) in
+    FirstOf f m 8 (count_trailing_zeros 64 (bit_and (bit_and ((x + (2 ^ 64 - 0x0101_0101_0101_0101)) % 2 ^ 64) (2 ^ 64 - 1 - x)) 0x8080_8080_8080_8080) / 8))
 unfolding marks
-first_marked {f} {w} {v} {m} y d same l e =
+first_marked {f} {w} {v} {m} d same small =
+    let l : v < 256 = omega arith in
     let all : v * 0x0101_0101_0101_0101 ≡ word (λ k. v) 8 = omega arith in
     let x : bit_xor w (v * 0x0101_0101_0101_0101) ≡ word (λ k. bit_xor (f k) v) 8 = ap₂ bit_xor d.whole all ∙ word_xor 8 f (λ k. v) d.small (λ k. l) in
-    let first = first_zero 8 (λ k. bit_xor (f k) v) y (λ k. xor_lt 8 (f k) v (d.small k) l) (e ∙ x) in
-    rw (x, ← same) (record {
+    let digits : (k : ℕ) → bit_xor (f k) v < 256 = λ k. xor_lt 8 (f k) v (d.small k) l in
+    let low : word (λ k. bit_xor (f k) v) 8 < 2 ^ 64 = word_below 8 (λ k. bit_xor (f k) v) digits in
+    let first = first_zero 8 (λ k. bit_xor (f k) v) _ digits (turned (word (λ k. bit_xor (f k) v) 8) 0x0101_0101_0101_0101 low (omega arith)) in
+    rw (x, ← complement (word (λ k. bit_xor (f k) v) 8) low, ← same) (record {
       high = first.high;
       clear = λ k b h. first.clear k b (ap (λ (u : ℕ). bit_xor u v) h ∙ xor_self v);
       here = λ b. same_byte _ v (first.here b);

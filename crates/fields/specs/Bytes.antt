@@ -1,7 +1,5 @@
 -- Names, actions and states, as lists of bytes. What a place in a sheet means is not said here. Assumes nothing: these are definitions.
-use Rattle.std.specs.Prelude.{◌≡◌, ℕ, suc, ◌+◌, ◌-◌, ◌*◌, ◌<◌, ◌≤◌, Bool, true, false, cond, ◌&&◌, ◌||◌, List, [], ◌∷◌, length, drop, ◌==◌, ◌≢◌, nat_le, slice_index, slice_range}
-use Rattle.fields.specs.declared.Number.{Number}
-use Rattle.fields.specs.declared.Number.TheVariants.{Of, Bad}
+use Rattle.std.specs.Prelude.{◌≡◌, ℕ, suc, ◌+◌, ◌-◌, ◌*◌, ◌<◌, ◌≤◌, Bool, true, false, cond, ◌&&◌, ◌||◌, List, [], ◌∷◌, length, drop, ◌==◌, ◌≢◌, nat_le, slice_index, slice_range, Option, Some, None}
 
 -- the bytes of s from place a up to place e
 unfoldable pub part : List ℕ → ℕ → ℕ → List ℕ
@@ -47,15 +45,15 @@ is_name (b ∷ bs) = is_letter b && (nat_le (length (b ∷ bs)) 12 && all_name_b
 unfoldable pub is_action : List ℕ → Bool
 is_action l = nat_le 1 (length l) && (nat_le (length l) 24 && all_name_bytes l)
 
-abbrev pub up_to63 : ℕ → Number
-up_to63 v = cond (nat_le v 63) (Of v) Bad
+abbrev pub up_to63 : ℕ → Option ℕ
+up_to63 v = cond (nat_le v 63) (Some v) None
 
 -- "A state is a decimal number 0 to 63 without leading zeros (`0` itself is good)."
-unfoldable pub read_state : List ℕ → Number
-read_state [] = Bad
-read_state (a ∷ []) = cond (is_digit a) (Of (a - 48)) Bad
-read_state (a ∷ b ∷ []) = cond (nat_le 49 a && nat_le a 57 && is_digit b) (up_to63 ((a - 48) * 10 + (b - 48))) Bad
-read_state (a ∷ b ∷ c ∷ ds) = Bad
+unfoldable pub read_state : List ℕ → Option ℕ
+read_state [] = None
+read_state (a ∷ []) = cond (is_digit a) (Some (a - 48)) None
+read_state (a ∷ b ∷ []) = cond (nat_le 49 a && nat_le a 57 && is_digit b) (up_to63 ((a - 48) * 10 + (b - 48))) None
+read_state (a ∷ b ∷ c ∷ ds) = None
 
 -- "the longest run of name bytes", and what follows it
 unfoldable pub run : List ℕ → List ℕ

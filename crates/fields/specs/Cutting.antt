@@ -1,9 +1,6 @@
 -- Lines and fields: cutting a list of bytes at a mark, and joining it again. Assumes nothing: these are definitions.
-use Rattle.std.specs.Prelude.{◌≡◌, ℕ, ◌+◌, ◌<◌, Bool, true, false, List, [], ◌∷◌, ◌++◌, length, ◌==◌}
-use Rattle.fields.specs.declared.TwoFields.{TwoFields}
-use Rattle.fields.specs.declared.TwoFields.TheVariants.{Parted, NotTwo}
-use Rattle.fields.specs.declared.FourFields.{FourFields}
-use Rattle.fields.specs.declared.FourFields.TheVariants.{Ends, NotFour}
+use Rattle.std.specs.Prelude.{◌≡◌, ℕ, ◌+◌, ◌<◌, Bool, true, false, List, [], ◌∷◌, ◌++◌, length, ◌==◌, Option, Some, None}
+use Rattle.fields.specs.declared.Tabs.{Tabs}
 use Rattle.fields.specs.Bytes.{part}
 
 -- a byte before the pieces that follow it: a mark begins a new piece, another byte joins the first
@@ -81,10 +78,15 @@ abbrev pub IsOne : List ℕ → Bool → Type 0
 IsOne l true = as_one (fields l) ≡ only l
 IsOne l false = as_one (fields l) ≡ not_one
 
-abbrev pub CutsTwo : List ℕ → TwoFields → Type 0
-CutsTwo l (Parted b) = (b < length l) × (as_two (fields l) ≡ two (part l 0 b) (part l (b + 1) (length l)))
-CutsTwo l NotTwo = as_two (fields l) ≡ not_two
+abbrev pub CutsTwo : List ℕ → Option ℕ → Type 0
+CutsTwo l (Some b) = (b < length l) × (as_two (fields l) ≡ two (part l 0 b) (part l (b + 1) (length l)))
+CutsTwo l None = as_two (fields l) ≡ not_two
 
-abbrev pub CutsFour : List ℕ → FourFields → Type 0
-CutsFour l (Ends b c d) = (b < c) × (c < d) × (d < length l) × (as_four (fields l) ≡ four (part l 0 b) (part l (b + 1) c) (part l (c + 1) d) (part l (d + 1) (length l)))
-CutsFour l NotFour = as_four (fields l) ≡ not_four
+abbrev pub tabs : (first second third : ℕ) → Tabs
+tabs b c d = record { first = b; second = c; third = d }
+
+abbrev pub CutsFour : List ℕ → Option Tabs → Type 0
+CutsFour l (Some t) =
+    (t.first < t.second) × (t.second < t.third) × (t.third < length l)
+    × (as_four (fields l) ≡ four (part l 0 t.first) (part l (t.first + 1) t.second) (part l (t.second + 1) t.third) (part l (t.third + 1) (length l)))
+CutsFour l None = as_four (fields l) ≡ not_four

@@ -8,31 +8,19 @@ ghost use Rattle.std.specs.Int.Count.{count_trailing_zeros};
 ghost use Rattle.fields.specs.Bytes.{piece_of, same_bytes, shared_bytes, is_letter, is_name_byte, FirstAt, RunEnd};
 ghost use Rattle.fields.specs.Inside.{FirstOf, Digits, BeginAlike};
 
-// A number that was read, or that the bytes are none.
+// The places of the three tabs between four fields.
 #[derive(Clone, Copy)]
-pub enum Number {
-    Of(usize),
-    Bad,
-}
-
-// Two fields, with the place of the tab between them.
-#[derive(Clone, Copy)]
-pub enum TwoFields {
-    Parted(usize),
-    NotTwo,
-}
-
-// Four fields, with the places where the first three end.
-#[derive(Clone, Copy)]
-pub enum FourFields {
-    Ends { b: usize, c: usize, d: usize },
-    NotFour,
+pub struct Tabs {
+    pub first: usize,
+    pub second: usize,
+    pub third: usize,
 }
 
 // The first place from `from` on at which s has the byte m, or the end of s. Eight bytes at a time.
 pub fn find(s: &[u8], m: u8, from: usize) -> usize
     ensures { FirstAt s.now m from result }
 {
+    // Not `for k in 0..eights`: it was tried, and takes an eighth more time.
     let mut i = from;
     while i < s.len() {
         if s.len() - i < 8 {
@@ -40,7 +28,7 @@ pub fn find(s: &[u8], m: u8, from: usize) -> usize
         }
         let marks = marks_of_eight(s, m, i);
         if marks != 0 {
-            return i + u64::trailing_zeros(marks) as usize / 8;
+            return i + marks.trailing_zeros() as usize / 8;
         }
         i += 8;
     }
@@ -51,19 +39,15 @@ pub fn find(s: &[u8], m: u8, from: usize) -> usize
 fn find_near(s: &[u8], m: u8, from: usize) -> usize
     ensures { FirstAt s.now m from result }
 {
-    let mut i = from;
-    while i < s.len() {
+    for i in from..s.len() {
         if s[i] == m {
             return i;
         }
-        i += 1;
     }
     s.len()
 }
 
 const ONES: u64 = 0x0101_0101_0101_0101;
-
-const ALL_BITS: u64 = 0xffff_ffff_ffff_ffff;
 
 const HIGH_BITS: u64 = 0x8080_8080_8080_8080;
 
@@ -74,8 +58,8 @@ fn marks_of_eight(s: &[u8], m: u8, i: usize) -> u64
     requires { i + 8 ≤ length s.now }
     ensures { FirstOf (λ k. slice_index s.now (i + k)) m 8 (count_trailing_zeros 64 result / 8) }
 {
-    let differs = eight(s, i) ^ (wide(m) * ONES);
-    std::num::wrapping_sub_u64(differs, ONES) & (differs ^ ALL_BITS) & HIGH_BITS
+    let differs = eight(s, i) ^ (u64::from(m) * ONES);
+    differs.wrapping_sub(ONES) & !differs & HIGH_BITS
 }
 
 // The eight bytes from i on as one number, the first lowest.
@@ -83,66 +67,42 @@ fn eight(s: &[u8], i: usize) -> u64
     requires { i + 8 ≤ length s.now }
     ensures { Digits (λ k. slice_index s.now (i + k)) result }
 {
-    wide(s[i])
-        + wide(s[i + 1]) * 0x100
-        + wide(s[i + 2]) * 0x1_0000
-        + wide(s[i + 3]) * 0x100_0000
-        + wide(s[i + 4]) * 0x1_0000_0000
-        + wide(s[i + 5]) * 0x100_0000_0000
-        + wide(s[i + 6]) * 0x1_0000_0000_0000
-        + wide(s[i + 7]) * 0x100_0000_0000_0000
-}
-
-// A byte as a word.
-fn wide(b: u8) -> u64
-    ensures { (result ≡ b) × (result < 256) }
-{
-    b as u64
+    // `u64::from_le_bytes` of `first_chunk` is no plainer: it wants an answer for a `None` that cannot be.
+    u64::from(s[i])
+        + u64::from(s[i + 1]) * 0x100
+        + u64::from(s[i + 2]) * 0x1_0000
+        + u64::from(s[i + 3]) * 0x100_0000
+        + u64::from(s[i + 4]) * 0x1_0000_0000
+        + u64::from(s[i + 5]) * 0x100_0000_0000
+        + u64::from(s[i + 6]) * 0x1_0000_0000_0000
+        + u64::from(s[i + 7]) * 0x100_0000_0000_0000
 }
 
 // The bytes from place a up to place e, or none where s has no such part.
 pub fn piece(s: &[u8], a: usize, e: usize) -> &[u8]
     ensures { result.now ≡ piece_of s.now a e }
 {
-    if e < a {
-        return &s[0..0];
-    }
-    if s.len() < e {
-        return &s[0..0];
-    }
-    &s[a..e]
+    s.get(a..e).unwrap_or(&[])
 }
 
 // Whether the bytes of x are those of y.
 pub fn same_bytes(x: &[u8], y: &[u8]) -> bool
     ensures { result ≡ same_bytes x.now y.now }
 {
-    if x.len() != y.len() {
-        return false;
-    }
-    let mut i = 0;
-    while i < x.len() {
-        if x[i] != y[i] {
-            return false;
-        }
-        i += 1;
-    }
-    true
+    x == y
 }
 
 // How many of the first bytes x and y share: looked at in eights, and then one by one.
 pub fn shared(x: &[u8], y: &[u8]) -> usize
     ensures { result ≡ shared_bytes x.now y.now }
 {
-    let most = shorter(x.len(), y.len());
-    let mut n = eights(x, y);
-    while n < most {
+    let most = x.len().min(y.len());
+    for n in eights(x, y)..most {
         if x[n] != y[n] {
             return n;
         }
-        n += 1;
     }
-    n
+    most
 }
 
 // A place up to which x and y are alike, told by eights: the first that differ, or fewer than eight are left.
@@ -150,61 +110,39 @@ pub fn shared(x: &[u8], y: &[u8]) -> usize
 fn eights(x: &[u8], y: &[u8]) -> usize
     ensures { BeginAlike x.now y.now result }
 {
-    let most = shorter(x.len(), y.len());
+    // Not `for n in 0..most / 8`: it was tried, and takes a sixteenth more time.
+    let most = x.len().min(y.len());
     let mut k = 0;
     while 8 <= most - k {
         let differs = eight(x, k) ^ eight(y, k);
         if differs != 0 {
-            return k + u64::trailing_zeros(differs) as usize / 8;
+            return k + differs.trailing_zeros() as usize / 8;
         }
         k += 8;
     }
     k
 }
 
-// The smaller of two lengths.
-fn shorter(a: usize, b: usize) -> usize
-    ensures { result ≡ min a b }
-{
-    if b < a {
-        return b;
-    }
-    a
-}
-
 pub fn is_letter(b: u8) -> bool
     ensures { result ≡ is_letter b }
 {
-    if b < b'A' {
-        return false;
-    }
-    if b <= b'Z' {
-        return true;
-    }
-    if b < b'a' {
-        return false;
-    }
-    b <= b'z'
+    b.is_ascii_alphabetic()
 }
 
 pub fn is_name_byte(b: u8) -> bool
     ensures { result ≡ is_name_byte b }
 {
-    ((b'A' <= b) & (b <= b'Z'))
-        | ((b'a' <= b) & (b <= b'z'))
-        | (((b'0' <= b) & (b <= b'9')) | (b == b'_'))
+    b.is_ascii_alphanumeric() | (b == b'_')
 }
 
 // Where the run of name bytes that begins at `at` ends; past the end of s, that end.
 pub fn run_end(s: &[u8], at: usize) -> usize
     ensures { RunEnd s.now at result }
 {
-    let mut i = at;
-    while i < s.len() {
+    for i in at..s.len() {
         if !is_name_byte(s[i]) {
             return i;
         }
-        i += 1;
     }
     s.len()
 }

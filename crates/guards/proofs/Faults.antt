@@ -1,13 +1,9 @@
 -- What a fault is, by what stands before it: in what is open there a guard may begin at it, or has just ended. From this come the bytes before it and its
 -- number. Assumes nothing.
-use mathlib.Core.Path.{◌≡◌, refl, ap, ◌∙◌}
-use mathlib.Core.Bool.{true}
-use mathlib.Core.List.{List, [], ◌∷◌, ◌++◌}
-use mathlib.Core.Logic.{◌⊎◌, inl, inr}
-use Prim.Native.Nat.{ℕ, suc, ◌≤◌, ◌<◌}
-use native.Mathlib.Omega.{arith}
-use lib.ListN.{length}
-use Rattle.products.specs.declared.Found.TheVariants.{Nothing}
+use Rattle.refusals.specs.declared.Reason.{Reason}
+use Rattle.refusals.specs.declared.Reason.TheVariants as because
+use Rattle.std.proofs.Common.{None, ◌≡◌, refl, ap, ◌∙◌, true, List, [], ◌∷◌, ◌++◌, ◌⊎◌, inl, inr, ℕ, suc, ◌≤◌, ◌<◌, arith, length}
+use Rattle.refusals.specs.Refusal.{number_of}
 use Rattle.fields.specs.Bytes.{is_letter, run, Stops}
 use Rattle.guards.specs.Guard.{Operator, Guard, Parts, byte_of, print, print_parts, nesting, nesting_of, Declared, DeclaredAll}
 use Rattle.guards.specs.Reading.{faulty, number, read_guard}
@@ -67,33 +63,33 @@ pub record Printed (n : List (List ℕ)) (left : ℕ) (bs : List ℕ) (g : Guard
   pub apart : EndsNamed g → Stops rest
 
 -- y begins as `from` does, as far as e looks: with the same byte, or for 6 with the same run of name bytes, and then none
-abbrev pub Alike : ℕ → List ℕ → List ℕ → Type 0
+abbrev pub Alike : Reason → List ℕ → List ℕ → Type 0
 Alike e [] y = ⊥
-Alike e (b ∷ bs) y = ((e ≡ 6 → ⊥) × (cs : List ℕ) × (y ≡ b ∷ cs)) ⊎ ((e ≡ 6) × (cs : List ℕ) × Stops cs × (y ≡ run (b ∷ bs) ++ cs))
+Alike e (b ∷ bs) y = ((e ≡ because.UndeclaredName → ⊥) × (cs : List ℕ) × (y ≡ b ∷ cs)) ⊎ ((e ≡ because.UndeclaredName) × (cs : List ℕ) × Stops cs × (y ≡ run (b ∷ bs) ++ cs))
 
 -- the numbers of faults; where the bytes end too soon it is 5
-pub record Numbered (e : ℕ) (from : List ℕ) : Type 0 where
-  pub low : 5 ≤ e
-  pub high : e ≤ 7
-  pub ended : from ≡ [] → e ≡ 5
+pub record Numbered (e : Reason) (from : List ℕ) : Type 0 where
+  pub low : 5 ≤ number_of e
+  pub high : number_of e ≤ 7
+  pub ended : from ≡ [] → e ≡ because.BadGuard
 
 -- of bs, where `left` more may be nested, `from` are the bytes from a fault e on: a guard may begin there, and whatever begins alike is refused; or it lies
 -- behind `!`, or in brackets; or a guard in brackets has ended there, and may not be followed so
-pub data Fault (n : List (List ℕ)) : ℕ → List ℕ → ℕ → List ℕ → Type 0 where
-  here : {left e : ℕ} {bs : List ℕ} → Numbered e bs → ((y : List ℕ) → Alike e bs y → read_guard n left y ≡ faulty e y) → Fault n left bs e bs
-  denying : {left e : ℕ} {bs from : List ℕ} → Fault n left bs e from → Fault n (suc left) (33 ∷ bs) e from
-  within : {left e : ℕ} {bs from : List ℕ} (f : Bracket) → Fits f n left → Fault n left bs e from → Fault n (suc left) (leading f n bs) e from
-  behind : {left : ℕ} {bs rest : List ℕ} {g : Guard} (f : Bracket) → Fits f n left → Printed n left bs g rest → Bars f rest → Fault n (suc left) (leading f n bs) 5 rest
+pub data Fault (n : List (List ℕ)) : ℕ → List ℕ → Reason → List ℕ → Type 0 where
+  here : {left : ℕ} {e : Reason} {bs : List ℕ} → Numbered e bs → ((y : List ℕ) → Alike e bs y → read_guard n left y ≡ faulty e y) → Fault n left bs e bs
+  denying : {left : ℕ} {e : Reason} {bs from : List ℕ} → Fault n left bs e from → Fault n (suc left) (33 ∷ bs) e from
+  within : {left : ℕ} {e : Reason} {bs from : List ℕ} (f : Bracket) → Fits f n left → Fault n left bs e from → Fault n (suc left) (leading f n bs) e from
+  behind : {left : ℕ} {bs rest : List ℕ} {g : Guard} (f : Bracket) → Fits f n left → Printed n left bs g rest → Bars f rest → Fault n (suc left) (leading f n bs) because.BadGuard rest
 
 -- ---- the number
 
-pub numbered_five : {from : List ℕ} → Numbered 5 from
+pub numbered_five : {from : List ℕ} → Numbered because.BadGuard from
 numbered_five = record { low = omega arith; high = omega arith; ended = λ q. refl }
 
-pub numbered_byte : {e b : ℕ} {bs : List ℕ} → 5 ≤ e → e ≤ 7 → Numbered e (b ∷ bs)
+pub numbered_byte : {e : Reason} {b : ℕ} {bs : List ℕ} → 5 ≤ number_of e → number_of e ≤ 7 → Numbered e (b ∷ bs)
 numbered_byte {b = b} {bs = bs} l h = record { low = l; high = h; ended = λ (q : b ∷ bs ≡ []). cc }
 
-pub numbered : {n : List (List ℕ)} {left e : ℕ} {bs from : List ℕ} → Fault n left bs e from → Numbered e from
+pub numbered : {n : List (List ℕ)} {left : ℕ} {e : Reason} {bs from : List ℕ} → Fault n left bs e from → Numbered e from
 numbered (here m h) = m
 numbered (denying h) = numbered h
 numbered (within f w h) = numbered h
@@ -102,7 +98,7 @@ numbered (behind f w p q) = numbered_five
 -- ---- the bytes before
 
 module _ {n : List (List ℕ)} where
-  unfoldable pub before : {left e : ℕ} {bs from : List ℕ} → Fault n left bs e from → List ℕ
+  unfoldable pub before : {left : ℕ} {e : Reason} {bs from : List ℕ} → Fault n left bs e from → List ℕ
   before (here m h) = []
   before (denying h) = 33 ∷ before h
   before (within f w h) = leading f n (before h)
@@ -111,7 +107,7 @@ module _ {n : List (List ℕ)} where
   pub printed_parted : {left : ℕ} {bs rest : List ℕ} {g : Guard} → Printed n left bs g rest → bs ≡ print g n [] ++ rest
   printed_parted {rest = rest} {g = g} h = h.text ∙ print_append n g [] rest
 
-  pub parted : {left e : ℕ} {bs from : List ℕ} (h : Fault n left bs e from) → bs ≡ before h ++ from
+  pub parted : {left : ℕ} {e : Reason} {bs from : List ℕ} (h : Fault n left bs e from) → bs ≡ before h ++ from
   unfolding before
   parted (here m h) = refl
   parted (denying h) = ap (λ (l : List ℕ). 33 ∷ l) (parted h)
@@ -128,20 +124,20 @@ module _ {n : List (List ℕ)} where
 -- ---- where a guard may begin: the end, a byte that is refused whatever follows, a name that is not declared
 
 -- what holds whatever follows the byte, holds of all that begins alike
-pub same_byte : {e b : ℕ} (bs : List ℕ) (P : List ℕ → Type 0) → (e ≡ 6 → ⊥) → ((cs : List ℕ) → P (b ∷ cs)) → (y : List ℕ) → Alike e (b ∷ bs) y → P y
+pub same_byte : {e : Reason} {b : ℕ} (bs : List ℕ) (P : List ℕ → Type 0) → (e ≡ because.UndeclaredName → ⊥) → ((cs : List ℕ) → P (b ∷ cs)) → (y : List ℕ) → Alike e (b ∷ bs) y → P y
 same_byte bs P f on y (inl q) = rw q.2 (on q.1)
 same_byte bs P f on y (inr q) = absurd (f q.0)
 
 module _ {n : List (List ℕ)} {left : ℕ} where
-  pub missing : Fault n left [] 5 []
+  pub missing : Fault n left [] because.BadGuard []
   missing = here numbered_five (λ y q. absurd q)
 
-  pub refused : {b e : ℕ} {bs : List ℕ} → (e ≡ 6 → ⊥) → 5 ≤ e → e ≤ 7 → ((cs : List ℕ) → read_guard n left (b ∷ cs) ≡ faulty e (b ∷ cs)) → Fault n left (b ∷ bs) e (b ∷ bs)
+  pub refused : {b : ℕ} {e : Reason} {bs : List ℕ} → (e ≡ because.UndeclaredName → ⊥) → 5 ≤ number_of e → number_of e ≤ 7 → ((cs : List ℕ) → read_guard n left (b ∷ cs) ≡ faulty e (b ∷ cs)) → Fault n left (b ∷ bs) e (b ∷ bs)
   refused {e = e} {bs = bs} f l h on = here (numbered_byte l h) (same_byte bs (λ y. read_guard n left y ≡ faulty e y) f on)
 
-  pub undeclared : (b : ℕ) (bs : List ℕ) → is_letter b ≡ true → number n (run (b ∷ bs)) ≡ Nothing → Fault n left (b ∷ bs) 6 (b ∷ bs)
-  undeclared b bs l e = here {e = 6} (numbered_byte (omega arith) (omega arith)) on
+  pub undeclared : (b : ℕ) (bs : List ℕ) → is_letter b ≡ true → number n (run (b ∷ bs)) ≡ None → Fault n left (b ∷ bs) because.UndeclaredName (b ∷ bs)
+  undeclared b bs l e = here {e = because.UndeclaredName} (numbered_byte (omega arith) (omega arith)) on
     where
-      on : (y : List ℕ) → Alike 6 (b ∷ bs) y → read_guard n left y ≡ faulty 6 y
+      on : (y : List ℕ) → Alike because.UndeclaredName (b ∷ bs) y → read_guard n left y ≡ faulty because.UndeclaredName y
       on y (inl q) = absurd (q.0 refl)
       on y (inr q) = rw q.3 (undeclared_name n b bs left q.1 l e q.2)

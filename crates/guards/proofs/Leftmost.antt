@@ -1,11 +1,8 @@
 -- The place of a refusal is the leftmost faulty byte. What is open before a fault is read in the same way whatever follows, a fault in it is handed out
 -- as it is, and a guard in it can be closed; the laws go along what is open, down to where a guard may begin or behind a guard. Assumes nothing.
-use mathlib.Core.Path.{◌≡◌, refl, sym, ap, subst, ◌∙◌}
-use mathlib.Core.List.{List, [], ◌∷◌, ◌++◌, append_assoc}
-use mathlib.Core.Logic.{inl, inr}
-use Prim.Native.Nat.{ℕ, suc, ◌-◌}
-use native.Mathlib.Omega.{arith}
-use lib.ListN.{length}
+use Rattle.refusals.specs.declared.Reason.{Reason}
+use Rattle.refusals.specs.declared.Reason.TheVariants as because
+use Rattle.std.proofs.Common.{◌≡◌, refl, sym, ap, subst, ◌∙◌, List, [], ◌∷◌, ◌++◌, append_assoc, inl, inr, ℕ, suc, ◌-◌, arith, length}
 use Rattle.fields.specs.Bytes.{run, Stops}
 use Rattle.guards.specs.Guard.{conj, Guard, never, neg, chain, choice, one, print}
 use Rattle.guards.specs.Reading.{Outcome, took, faulty, after_part, parts, closed, otherwise, after_first, negated, read_guard, alone, read_whole, GoodNames}
@@ -46,21 +43,21 @@ module _ (n : List (List ℕ)) (left k : ℕ) where
   closes (choosing c g) h rest = (choice c g h, refl)
   closes (joining o ps) g rest = (chain o ps g, refl)
 
-  faulty_on : (f : Bracket) (e : ℕ) (from : List ℕ) → further n left k f (faulty e from) ≡ faulty e from
+  faulty_on : (f : Bracket) (e : Reason) (from : List ℕ) → further n left k f (faulty e from) ≡ faulty e from
   faulty_on opening e from = refl
   faulty_on (asking c) e from = refl
   faulty_on (choosing c g) e from = refl
   faulty_on (joining o ps) e from = refl
 
-  barred : (f : Bracket) (g : Guard) (b : ℕ) (cs : List ℕ) → Bars f (b ∷ cs) → further n left k f (took g (b ∷ cs)) ≡ faulty 5 (b ∷ cs)
+  barred : (f : Bracket) (g : Guard) (b : ℕ) (cs : List ℕ) → Bars f (b ∷ cs) → further n left k f (took g (b ∷ cs)) ≡ faulty because.BadGuard (b ∷ cs)
   barred opening g b cs q = first_fault (read_guard n left) g b cs q.0 q.1 q.2
   barred (asking c) g b cs q = colon_fault (read_guard n left) c g b cs q
   barred (choosing c g) h b cs q = closing_fault c g h b cs q
   barred (joining o ps) g b cs q = part_fault (parts (read_guard n left) k o) o ps g b cs q.0 q.1
 
 -- the same run of name bytes, and then none
-same_run : {e : ℕ} (from cs : List ℕ) → Numbered e from → e ≡ 6 → Stops cs → Alike e from (run from ++ cs)
-same_run [] cs m q s = let z = m.ended refl in absurd (omega arith)
+same_run : {e : Reason} (from cs : List ℕ) → Numbered e from → e ≡ because.UndeclaredName → Stops cs → Alike e from (run from ++ cs)
+same_run [] cs m q s = let z = m.ended refl in cc
 same_run (b ∷ bs) cs m q s = inr (q, cs, s, refl)
 
 -- ---- what is open before a fault
@@ -92,18 +89,18 @@ module _ (n : List (List ℕ)) (good : GoodNames n) where
   read_again {left} {g = g} h y s = rw (← print_append n g [] y) (read_printed n good g h.declared left h.nested y s)
 
   -- what begins alike is refused at the same place
-  stays : {left e : ℕ} {bs from : List ℕ} (h : Fault n left bs e from) (y : List ℕ) → Alike e from y → read_guard n left (before h ++ y) ≡ faulty e y
+  stays : {left : ℕ} {e : Reason} {bs from : List ℕ} (h : Fault n left bs e from) (y : List ℕ) → Alike e from y → read_guard n left (before h ++ y) ≡ faulty e y
   unfolding before
   stays (here m h) y q = h y q
   stays (denying {left} h) y q = at_byte n (suc left) 33 (before h ++ y) ∙ ap negated (stays h y q)
   stays (within {left} {e} f w h) y q = let r = read_within left f w (before h) y (stays h y q) in r.1 ∙ faulty_on n left r.0 f e y
   stays (behind {rest = []} f w p z) y q = absurd q
   stays (behind {left} {rest = b ∷ rest} {g = g} f w p z) y q =
-      same_byte rest (λ l. read_guard n (suc left) (leading f n (print g n []) ++ l) ≡ faulty 5 l) (λ i. omega arith)
+      same_byte rest (λ l. read_guard n (suc left) (leading f n (print g n []) ++ l) ≡ faulty because.BadGuard l) (λ i. cc)
       (λ cs. let r = read_within left f w (print g n []) (b ∷ cs) (read_again p (b ∷ cs) p.apart) in r.1 ∙ barred n left r.0 f g b cs (bars_same f b rest cs z)) y q
 
   -- what stands before can be completed, whatever follows then
-  completes : {left e : ℕ} {bs from : List ℕ} (h : Fault n left bs e from) → (c : List ℕ) × ((rest : List ℕ) → (g : Guard) × (read_guard n left (before h ++ (c ++ rest)) ≡ took g rest))
+  completes : {left : ℕ} {e : Reason} {bs from : List ℕ} (h : Fault n left bs e from) → (c : List ℕ) × ((rest : List ℕ) → (g : Guard) × (read_guard n left (before h ++ (c ++ rest)) ≡ took g rest))
   unfolding before
   completes (here {left} m h) = (48 ∷ [], λ rest. (never, at_byte n left 48 rest))
   completes (denying {left} h) =
@@ -127,7 +124,7 @@ module _ (n : List (List ℕ)) (good : GoodNames n) where
   )
 
   -- a fault of a field
-  leftmost : (x : List ℕ) {e : ℕ} {from : List ℕ} → read_whole n x ≡ faulty e from → WholeFault n x e from → Leftmost n x e from
+  leftmost : (x : List ℕ) {e : Reason} {from : List ℕ} → read_whole n x ≡ faulty e from → WholeFault n x e from → Leftmost n x e from
   unfolding read_whole
   leftmost x z (faulted {e} {from} h) =
       record {
@@ -136,7 +133,7 @@ module _ (n : List (List ℕ)) (good : GoodNames n) where
         parted = parted h;
         completed = let r = completes h in (r.0 ++ [], (r.1 []).0, ap alone (r.1 []).1);
         stays = λ b bs q i cs. ap alone (stays h (b ∷ cs) (rw q (inl (i, cs, refl))));
-        named = λ q cs s. ap alone (stays h (run from ++ cs) (same_run from cs (numbered h) q s)) ∙ ap (λ (k : ℕ). faulty k (run from ++ cs)) q;
+        named = λ q cs s. ap alone (stays h (run from ++ cs) (same_run from cs (numbered h) q s)) ∙ ap (λ (k : Reason). faulty k (run from ++ cs)) q;
         ended = (numbered h).ended;
       }
   leftmost x z (trailing {b} {g} {rest} h) =
@@ -146,7 +143,7 @@ module _ (n : List (List ℕ)) (good : GoodNames n) where
         parted = printed_parted h;
         completed = ([], g, ap alone (read_again h [] (λ q. tt)));
         stays = λ c bs q i cs. let y : c ≡ b = cc in rw y (ap alone (read_again h (b ∷ cs) h.apart));
-        named = λ q. absurd (omega arith);
+        named = λ q. cc;
         ended = λ q. refl;
       }
 

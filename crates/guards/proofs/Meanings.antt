@@ -1,12 +1,6 @@
 -- The sets that the set functions make mean the guards that they stand for: a set operation on members is the guard's operation on truth values,
 -- by cases. Assumes nothing.
-use mathlib.Core.Path.{◌≡◌, refl, ◌∙◌}
-use mathlib.Core.Bool.{Bool, true, false, cond, not}
-use mathlib.Core.List.{List}
-use Prim.Native.Nat.{ℕ, zero, suc, ◌-◌, ◌<◌, min, max}
-use native.Mathlib.Omega.{arith}
-use lib.Dec.{eqb}
-use lib.ListN.{replicate}
+use Rattle.std.proofs.Common.{◌≡◌, refl, ◌∙◌, Bool, true, false, cond, not, List, ℕ, zero, suc, ◌-◌, ◌<◌, min, max, arith, eqb, replicate}
 use Rattle.products.specs.Sets.{bit, has, one_if}
 use Rattle.products.proofs.Laws.{empty_has, full_has}
 use Rattle.guards.specs.Guard.{Operator, conj, disj, Guard, never, always, feature, neg, chain, choice, Parts, one, more, joined, holds, parts_hold, byte_of, Means, PartsMean}

@@ -1,9 +1,5 @@
 -- What `has`, `is_empty`, `is_full`, `meets` and `exceeds` promise determines their answers. Assumes nothing.
-use mathlib.Core.Path.{◌≡◌}
-use mathlib.Core.Bool.{Bool, true, false}
-use mathlib.Core.List.{List}
-use Prim.Native.Nat.{ℕ}
-use native.Mathlib.Omega.{arith}
+use Rattle.std.proofs.Common.{◌≡◌, Bool, true, false, List, ℕ, arith}
 use Rattle.products.specs.Sets.{In, Full, Lacks}
 use Rattle.products.proofs.Determined.{told_determined}
 

@@ -1,16 +1,9 @@
 -- Words joined by `|`: what is known of those that were joined, how that grows by a word, and what it says where all are: of the words of a set,
 -- and of the differences of two sets' words. And what it says of a set to be the full one or not. Assumes nothing.
-use mathlib.Core.Path.{◌≡◌, refl, ◌∙◌}
-use mathlib.Core.List.{List}
-use mathlib.Core.Logic.{◌⊎◌, inl, inr, ⊎_elim}
-use Prim.Native.Nat.{ℕ, zero, suc, ◌+◌, ◌*◌, ◌/◌, ◌%◌, ◌^◌, ◌<◌, ◌≤◌}
+use Rattle.std.proofs.Common.{◌≡◌, refl, ◌∙◌, List, ◌⊎◌, inl, inr, ⊎_elim, ℕ, zero, suc, ◌+◌, ◌*◌, ◌/◌, ◌%◌, ◌^◌, ◌<◌, ◌≤◌, eq-or-lt_of_le, arith, below_more, bit_or, bit_xor, length, get_or, replicate, ext_get_or}
 use native.Mathlib.Decide.{dec_lt}
-use native.Mathlib.Nat.{eq-or-lt_of_le}
-use native.Mathlib.Omega.{arith}
-use borrow.Author.Count.{below_more}
-use lib.Bits.{bit_or, bit_xor, and_le_l, and_le_r, or_add_and, xor_add_and, xor_self}
-use lib.ListN.{length, get_or, replicate, get_or-replicate, get_or-eq_default}
-use lib.Seq.{ext_get_or}
+use lib.Bits.{and_le_l, and_le_r, or_add_and, xor_add_and, xor_self}
+use lib.ListN.{get_or-replicate, get_or-eq_default}
 use Rattle.products.specs.Sets.{bit, has, In, Full, Lacks, Words}
 use Rattle.products.proofs.Bits.{zero_bit, eq_bits}
 use Rattle.products.proofs.Laws.{has_at, has_le, full_has}

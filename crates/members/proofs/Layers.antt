@@ -1,33 +1,20 @@
 -- The search for the plainest product: the words of a layer, the search through the layers of one word, and what is known of the best product after
 -- each word. Assumes nothing.
-use mathlib.Core.Path.{◌≡◌, refl, sym, ap, ◌∙◌}
-use mathlib.Core.Bool.{Bool, true, false, ◌||◌}
-use mathlib.Core.List.{List}
-use mathlib.Core.Logic.{◌⊎◌, inl, inr}
-use Prim.Native.Nat.{ℕ, ◌+◌, ◌*◌, ◌/◌, ◌%◌, ◌^◌, ◌<◌, ◌≤◌}
+use Rattle.std.proofs.Common.{Option, Some, None, ◌≡◌, refl, sym, ap, ◌∙◌, Bool, true, false, ◌||◌, List, ◌⊎◌, inl, inr, ℕ, ◌+◌, ◌-◌, ◌*◌, ◌/◌, ◌%◌, ◌^◌, ◌<◌, ◌≤◌, arith, eq-eqb, ne_eqb, eqb-true, eqb, get_or, bit_and, ltb-true, leb-true, T, ltb, leb, eqb→eq}
 use native.Mathlib.Decide.{dec_lt}
-use native.Mathlib.Omega.{arith}
-use borrow.Author.Tests.{eq-eqb, ne_eqb, eqb-true, ltb-true, leb-true}
-use lib.Bits.{bit_and}
-use lib.Dec.{T, eqb, ltb, leb, eqb→eq}
-use lib.ListN.{get_or}
-use Rattle.products.specs.declared.Found.{Found}
-use Rattle.products.specs.declared.Found.TheVariants.{At, Nothing}
 use Rattle.products.specs.Sets.{bit, has, one_if, Picked, Least, Finds}
 use Rattle.products.specs.Orders.{bits, features, Plainer, fewer, as_many}
 use Rattle.products.proofs.Bits.{zero_bit, bit_and_lem, passes, passes_at, word_at}
 use Rattle.products.proofs.Laws.{one_true, found_at, found_none}
 use Rattle.products.proofs.Ordered.{plainer_by, plainer_few, bits_le, features_none, features_split}
 use Rattle.members.specs.Inside.{InWord}
+use Rattle.members.proofs.Passed.{shown}
 
 -- ---- the words of a layer
 
 -- the numbers below 64 that have n features
 pub features_word : (x n : ℕ) {i : ℕ} → T (passes (λ k. eqb (bit x k) (one_if (eqb (bits k 6) n))) 64) → i ≡ n → (k : ℕ) → k < 64 → bit x k ≡ one_if (eqb (bits k 6) i)
 features_word = word_at (λ n k. one_if (eqb (bits k 6) n))
-
-pub at_six : {n : ℕ} → 6 ≤ n → n ≤ 6 → n ≡ 6
-at_six a b = omega arith
 
 pub features_past : {n : ℕ} → 6 < n → (k : ℕ) → k < 64 → bit 0 k ≡ one_if (eqb (bits k 6) n)
 features_past {n} l k lk = zero_bit k ∙ sym (ap one_if (ne_eqb (bits k 6) n (λ e. omega (arith, bits_le k 6))))
@@ -47,12 +34,12 @@ words_have m end {few} test e w l past = told (ltb w end) refl (leb m (bits w 4)
 
 -- ---- the layers of a word
 
--- every place of x has k features or more
-pub record From (x k : ℕ) : Type 0 where
-  pub is : (j : ℕ) → j < 64 → bit x j ≡ 1 → k ≤ bits j 6
+-- every place of x has n features or more, with the c of its word
+pub record From (x c n : ℕ) : Type 0 where
+  pub is : (j : ℕ) → j < 64 → bit x j ≡ 1 → n ≤ c + bits j 6
 
-pub from_none : (x k : ℕ) → k ≡ 0 → From x k
-from_none x k e = record { is = λ j l o. omega arith }
+pub from_none : (x c : ℕ) → From x c c
+from_none x c = record { is = λ j l o. omega arith }
 
 -- the features of a product are those of its place and of its word
 in_its_word : (q w : ℕ) → q / 64 ≡ w → features q ≡ bits (q % 64) 6 + bits w 4
@@ -68,41 +55,42 @@ pub word_none : {w x n : ℕ} → x ≡ 0 → (q : ℕ) → InWord w x n q → �
 word_none e q i = let o = i.one in omega (arith, zero_bit (q % 64), rw e at o)
 
 -- no layer is left
-pub layers_past : (w : ℕ) {x few k c : ℕ} → c ≡ bits w 4 → From x k → few ≤ c + k → (q : ℕ) → InWord w x few q → ⊥
+pub layers_past : (w : ℕ) {x few c n : ℕ} → c ≡ bits w 4 → From x c n → few ≤ n → (q : ℕ) → InWord w x few q → ⊥
 layers_past w common h l q i = omega (arith, common, i.less, in_word i, h.is (q % 64) (omega arith) i.one)
 
--- m has the places of the layer k
-module _ (x m k : ℕ) (on : (j : ℕ) → j < 64 → bit m j ≡ one_if (eqb (bits j 6) k)) where
-  in_layer : (j : ℕ) → j < 64 → bit (bit_and x m) j ≡ 1 → (bit x j ≡ 1) × (bits j 6 ≡ k)
+-- m has the places whose products have n features, c of them those of the word
+module _ (x m : ℕ) {c n : ℕ} (le : c ≤ n) (on : (j : ℕ) → j < 64 → bit m j ≡ one_if (eqb (bits j 6) (n - c))) where
+  in_layer : (j : ℕ) → j < 64 → bit (bit_and x m) j ≡ 1 → (bit x j ≡ 1) × (c + bits j 6 ≡ n)
   in_layer j l e =
       let z = bit_and_lem x m j in
       let two : bit m j ≡ 1 = omega arith in
-      (omega arith, eqb-true (bits j 6) k (one_true (eqb (bits j 6) k) (sym (on j l) ∙ two)))
+      let k = eqb-true (bits j 6) (n - c) (one_true (eqb (bits j 6) (n - c)) (sym (on j l) ∙ two)) in
+      (omega arith, omega arith)
 
-  of_layer : (j : ℕ) → j < 64 → bit x j ≡ 1 → bits j 6 ≡ k → bit (bit_and x m) j ≡ 1
+  of_layer : (j : ℕ) → j < 64 → bit x j ≡ 1 → c + bits j 6 ≡ n → bit (bit_and x m) j ≡ 1
   of_layer j l o e =
       let z = bit_and_lem x m j in
-      let two : bit m j ≡ 1 = on j l ∙ ap one_if (eq-eqb (bits j 6) k e) in
+      let two : bit m j ≡ 1 = on j l ∙ ap one_if (eq-eqb (bits j 6) (n - c) (omega arith)) in
       omega arith
 
   -- a layer that has none
-  pub layer_none : From x k → ((j : ℕ) → j < 64 → bit (bit_and x m) j ≡ 0) → From x (k + 1)
+  pub layer_none : From x c n → bit_and x m ≡ 0 → From x c (n + 1)
   layer_none h e = record { is = λ j l o. let z = h.is j l o in let ne = other j l o in omega arith }
     where
-      other : (j : ℕ) → j < 64 → bit x j ≡ 1 → bits j 6 ≡ k → ⊥
-      other j l o s = omega (arith, of_layer j l o s, e j l)
+      other : (j : ℕ) → j < 64 → bit x j ≡ 1 → c + bits j 6 ≡ n → ⊥
+      other j l o s = let one = of_layer j l o s in omega (arith, zero_bit j, rw e at one)
 
   -- the lowest place of the first layer that has any
-  pub layer_least : (w : ℕ) {few c j : ℕ} → c ≡ bits w 4 → From x k → c + k < few → j < 64 → bit (bit_and x m) j ≡ 1
+  pub layer_least : (w : ℕ) {few j : ℕ} → c ≡ bits w 4 → From x c n → n < few → j < 64 → bit (bit_and x m) j ≡ 1
       → ((i : ℕ) → i < j → bit (bit_and x m) i ≡ 0) → Least Plainer (InWord w x few) (w * 64 + j)
-  layer_least w {few} {c} {j} common h l lj one none =
+  layer_least w {few} {j} common h l lj one none =
       let place : (w * 64 + j) % 64 ≡ j = omega arith in
       record {
         is = record { word = omega arith; one = rw place at.0; less = omega (arith, split, at.1, common, l) };
-        first = λ q i. plainer_by (omega (arith, split, in_word i, at.1, h.is (q % 64) (omega arith) i.one)) (before q i);
+        first = λ q i. plainer_by (omega (arith, split, in_word i, at.1, common, h.is (q % 64) (omega arith) i.one)) (before q i);
       }
     where
-      at : (bit x j ≡ 1) × (bits j 6 ≡ k)
+      at : (bit x j ≡ 1) × (c + bits j 6 ≡ n)
       at = in_layer j lj one
 
       split : features (w * 64 + j) ≡ bits j 6 + bits w 4
@@ -110,7 +98,7 @@ module _ (x m k : ℕ) (on : (j : ℕ) → j < 64 → bit m j ≡ one_if (eqb (b
 
       before : (q : ℕ) → InWord w x few q → features (w * 64 + j) ≡ features q → w * 64 + j ≤ q
       before q i e =
-          let b = of_layer (q % 64) (omega arith) i.one (omega (arith, split, in_word i, at.1, e)) in
+          let b = of_layer (q % 64) (omega arith) i.one (omega (arith, split, in_word i, at.1, common, e)) in
           let past : q % 64 < j → ⊥ = λ lt. omega (arith, none (q % 64) lt, b) in
           omega (arith, i.word)
 
@@ -123,22 +111,8 @@ pub record Best (P : ℕ → Type 0) (w best few : ℕ) : Type 0 where
   pub first : (q : ℕ) → P q → q < w * 64 → Plainer best q
   pub rest : (q : ℕ) → P q → w * 64 ≤ q → best ≤ q
 
--- the one with the smallest number, at its own word
-pub best_smallest : {P : ℕ → Type 0} {p n : ℕ} → Least ◌≤◌ P p → n ≡ features p → Best P (p / 64) p n
-best_smallest {P} {p} h e =
-    record {
-      is = h.is;
-      has_few = e;
-      first = λ q i l. let z = h.first q i in absurd (omega arith);
-      rest = λ q i l. h.first q i;
-    }
-
 module _ {y : ℕ} {a b : List ℕ} {w best few : ℕ} (x : ℕ) (h : Best (Picked y a b) w best few)
     (on : (k : ℕ) → (bit x k ≡ 1 → (bit (get_or a w 0) k ≡ 1) × (bit (get_or b w 0) k ≡ y)) × (bit (get_or a w 0) k ≡ 1 → bit (get_or b w 0) k ≡ y → bit x k ≡ 1)) where
-  shown : (q : ℕ) → Picked y a b q → q / 64 ≡ w → bit x (q % 64) ≡ 1
-  unfolding has
-  shown q i z = (on (q % 64)).1 (rw z at i.first.is) (rw z at i.second)
-
   picked_in : (q : ℕ) → InWord w x few q → w < 16 → Picked y a b q
   unfolding has
   picked_in q i l =
@@ -151,11 +125,11 @@ module _ {y : ℕ} {a b : List ℕ} {w best few : ℕ} (x : ℕ) (h : Best (Pick
     where
       by : Dec (q < w * 64) → Dec (features q < few) → A
       by (yes z) t = before z
-      by (no n) (yes t) = let z : q / 64 ≡ w = omega arith in plainer (record { word = z; one = shown q i z; less = t })
+      by (no n) (yes t) = let z : q / 64 ≡ w = omega arith in plainer (record { word = z; one = shown x on q i z; less = t })
       by (no n) (no t) = other (omega arith) (omega arith)
 
   -- a word that has none that is plainer
-  pub best_stays : {f : Found} → Finds Plainer (InWord w x few) f → f ≡ Nothing → Best (Picked y a b) (w + 1) best few
+  pub best_stays : {f : Option ℕ} → Finds Plainer (InWord w x few) f → f ≡ None → Best (Picked y a b) (w + 1) best few
   best_stays g n =
       record {
         is = h.is;
@@ -167,7 +141,7 @@ module _ {y : ℕ} {a b : List ℕ} {w best few : ℕ} (x : ℕ) (h : Best (Pick
       }
 
   -- a word that has one
-  pub best_changes : {f : Found} {p less : ℕ} → Finds Plainer (InWord w x few) f → f ≡ At p → w < 16 → less ≡ features p → Best (Picked y a b) (w + 1) p less
+  pub best_changes : {f : Option ℕ} {p less : ℕ} → Finds Plainer (InWord w x few) f → f ≡ Some p → w < 16 → less ≡ features p → Best (Picked y a b) (w + 1) p less
   best_changes {p = p} g n lw e =
       let z = found_at Plainer (InWord w x few) g n in
       record {

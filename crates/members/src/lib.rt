@@ -7,7 +7,7 @@ ghost use Rattle.products.specs.Sets.{bit, one_if, In, Picked, InBoth, InOnly, L
 ghost use Rattle.products.specs.Orders.{bits, features, Plainer, Before};
 ghost use Rattle.members.specs.Inside.{InWord};
 
-use products::{Found, Order};
+use products::Order;
 
 // Whether s has the product p.
 pub fn has(s: &[u64; 16], p: usize) -> bool
@@ -23,11 +23,10 @@ pub fn has(s: &[u64; 16], p: usize) -> bool
 pub fn same(a: [u64; 16], b: [u64; 16]) -> bool
     ensures { (result ≡ true → a ≡ b) × (result ≡ false → a ≡ b → ⊥) }
 {
-    let mut differ = 0u64;
-    let mut i = 0;
-    while i < 16 {
-        differ = differ | (a[i] ^ b[i]);
-        i += 1;
+    // Not `a == b`: it was tried, and takes a seventh more time.
+    let mut differ = 0;
+    for i in 0..16 {
+        differ |= a[i] ^ b[i];
     }
     differ == 0
 }
@@ -43,41 +42,37 @@ pub fn is_full(s: [u64; 16]) -> bool
 pub fn count(s: [u64; 16]) -> usize
     ensures { result ≡ count_to s 1024 }
 {
-    let mut n: usize = 0;
-    let mut i = 0;
-    while i < 16 {
-        n += u64::count_ones(s[i]) as usize;
-        i += 1;
+    let mut n = 0;
+    for word in &s {
+        n += word.count_ones() as usize;
     }
     n
 }
 
 // Of the products that a and b both have, the first in the order.
-pub fn least_both(order: Order, a: &[u64; 16], b: &[u64; 16]) -> Found
+pub fn least_both(order: Order, a: &[u64; 16], b: &[u64; 16]) -> Option<usize>
     ensures { Finds (Before order) (InBoth a.now b.now) result }
 {
     least(order, a, b, false)
 }
 
 // Of the products that a has and b has not, the first in the order.
-pub fn least_without(order: Order, a: &[u64; 16], b: &[u64; 16]) -> Found
+pub fn least_without(order: Order, a: &[u64; 16], b: &[u64; 16]) -> Option<usize>
     ensures { Finds (Before order) (InOnly a.now b.now) result }
 {
     least(order, a, b, true)
 }
 
-// Of the products that a has and b has, or has not if `out`, the first in the order.
-fn least(order: Order, a: &[u64; 16], b: &[u64; 16], out: bool) -> Found
+// Of the products that a has and b has, or has not if `out`, the first in the order. A closure in the place of `out`
+// is no plainer: what each function here promises is said by it.
+fn least(order: Order, a: &[u64; 16], b: &[u64; 16], out: bool) -> Option<usize>
     ensures { Finds (Before order) (Picked (one_if (not out)) a.now b.now) result }
 {
-    let smallest = search(a, b, out);
-    if let Order::ByNumber = order {
-        return smallest;
+    let p = search(a, b, out)?;
+    match order {
+        Order::ByNumber => Some(p),
+        Order::Plainest => Some(plainest(p, a, b, out)),
     }
-    let Found::At(p) = smallest else {
-        return Found::Nothing;
-    };
-    Found::At(plainest(p, a, b, out))
 }
 
 // Of the products that a has and b has, or has not if `out`, the plainest: p, which has the smallest number, or one
@@ -88,15 +83,15 @@ fn plainest(p: usize, a: &[u64; 16], b: &[u64; 16], out: bool) -> usize
 {
     let mut best = p;
     let mut few = features_of(p);
-    let mut w = p / 64;
-    while w < words_below(few) {
+    for w in p / 64..16 {
+        if words_below(few) <= w {
+            return best;
+        }
         let x = picked(a[w], b[w], out);
-        let plainer = plainest_in(w, x, few);
-        if let Found::At(q) = plainer {
+        if let Some(q) = plainest_in(w, x, few) {
             best = q;
             few = features_of(q);
         }
-        w += 1;
     }
     best
 }
@@ -107,8 +102,7 @@ fn words_below(few: usize) -> usize
     ensures { (result ≤ 16) × ((few ≤ 1) ⊎ ((w : ℕ) → w < 16 → result ≤ w → few ≤ bits w 4)) }
 {
     match few {
-        0 => 0,
-        1 => 0,
+        0 | 1 => 0,
         2 => 9,
         3 => 13,
         4 => 15,
@@ -121,36 +115,36 @@ fn features_of(p: usize) -> usize
     requires { p < 1024 }
     ensures { result ≡ features p }
 {
-    u64::count_ones(p as u64) as usize
+    p.count_ones() as usize
 }
 
 // The plainest product that the word x has, as word w, and that has fewer than `few` features: layer by layer,
 // and in its layer the one with the smallest number.
-fn plainest_in(w: usize, x: u64, few: usize) -> Found
+fn plainest_in(w: usize, x: u64, few: usize) -> Option<usize>
     requires { (w < 16) × (few ≤ 10) }
     ensures { Finds Plainer (InWord w x few) result }
 {
     if x == 0 {
-        return Found::Nothing;
+        return None;
     }
     let common = features_of_word(w);
-    let mut more = 0;
-    'search: loop {
-        if few <= common + more {
-            break 'search Found::Nothing;
-        }
-        let layer = x & with_features(more);
+    for n in common..few {
+        let layer = x & with_features(n - common);
         if layer != 0 {
-            let mut place = 0;
-            while place < 64 {
-                if (layer >> place) % 2 == 1 {
-                    break 'search Found::At(w * 64 + place);
-                }
-                place += 1;
-            }
+            return Some(w * 64 + lowest(layer));
         }
-        more += 1;
     }
+    None
+}
+
+// The lowest place at which x, which is not 0, has a bit.
+fn lowest(x: u64) -> usize
+    requires { 0 < x }
+    ensures place { result < 64 }
+    ensures has { bit x result ≡ 1 }
+    ensures first { (k : ℕ) → k < result → bit x k ≡ 0 }
+{
+    x.trailing_zeros() as usize
 }
 
 // How many of the last four features the products of word w have, all the same: one digit for each word.
@@ -165,9 +159,6 @@ fn features_of_word(w: usize) -> usize
 fn with_features(n: usize) -> u64
     ensures { (k : ℕ) → k < 64 → bit result k ≡ one_if (eqb (bits k 6) n) }
 {
-    if 6 < n {
-        return 0;
-    }
     match n {
         0 => 0x0000_0000_0000_0001,
         1 => 0x0000_0001_0001_0116,
@@ -175,32 +166,23 @@ fn with_features(n: usize) -> u64
         3 => 0x0116_1668_1668_6880,
         4 => 0x1668_6880_6880_8000,
         5 => 0x6880_8000_8000_0000,
-        _ => 0x8000_0000_0000_0000,
+        6 => 0x8000_0000_0000_0000,
+        _ => 0,
     }
 }
 
 // Of the products that a has and b has, or has not if `out`, the one with the smallest number. Words that hold
 // none are passed over whole.
-fn search(a: &[u64; 16], b: &[u64; 16], out: bool) -> Found
+fn search(a: &[u64; 16], b: &[u64; 16], out: bool) -> Option<usize>
     ensures { Finds ◌≤◌ (Picked (one_if (not out)) a.now b.now) result }
 {
-    let mut w = 0;
-    'search: loop {
-        if w == 16 {
-            break 'search Found::Nothing;
-        }
+    for w in 0..16 {
         let x = picked(a[w], b[w], out);
         if x != 0 {
-            let mut k = 0;
-            while k < 64 {
-                if (x >> k) % 2 == 1 {
-                    break 'search Found::At(w * 64 + k);
-                }
-                k += 1;
-            }
+            return Some(w * 64 + lowest(x));
         }
-        w += 1;
     }
+    None
 }
 
 // Whether a and b share a product.
@@ -221,12 +203,10 @@ pub fn exceeds(a: &[u64; 16], b: &[u64; 16]) -> bool
 fn any(a: &[u64; 16], b: &[u64; 16], out: bool) -> bool
     ensures { (result ≡ true → (q : ℕ) × Picked (one_if (not out)) a.now b.now q) × (result ≡ false → (q : ℕ) → Picked (one_if (not out)) a.now b.now q → ⊥) }
 {
-    let mut w = 0;
-    while w < 16 {
+    for w in 0..16 {
         if picked(a[w], b[w], out) != 0 {
             return true;
         }
-        w += 1;
     }
     false
 }
@@ -245,11 +225,10 @@ fn picked(a: u64, b: u64, out: bool) -> u64
 pub fn is_empty(s: [u64; 16]) -> bool
     ensures { (result ≡ true → (q : ℕ) → In s q → ⊥) × (result ≡ false → (q : ℕ) × In s q) }
 {
-    let mut all = 0u64;
-    let mut i = 0;
-    while i < 16 {
-        all = all | s[i];
-        i += 1;
+    // Not `s == [0; 16]`: it was tried, and takes twice the time.
+    let mut all = 0;
+    for word in &s {
+        all |= word;
     }
     all == 0
 }

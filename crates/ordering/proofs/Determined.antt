@@ -1,8 +1,5 @@
 -- What `order_moves` promises leaves no choice: how many rows are kept and what stands in the array afterwards are determined. Assumes nothing.
-use mathlib.Core.Path.{◌≡◌, ap}
-use mathlib.Core.List.{List}
-use Prim.Native.Nat.{ℕ}
-use lib.ListN.{length}
+use Rattle.std.proofs.Common.{◌≡◌, List, ℕ, length, ap}
 use Rattle.ordering.specs.Ordering.{Orders}
 use Rattle.ordering.proofs.Laws.{ordered_one}
 

@@ -1,21 +1,16 @@
 -- The order of lists of bytes is strict and total, and a row is put in front of the first that it is before. So the rows in order are the rows with the
 -- property, each once, none before an earlier one, and each before all later ones where no two have the same key. Assumes nothing.
-use mathlib.Core.Path.{◌≡◌, refl, sym, ap, ap₂, ◌∙◌}
-use mathlib.Core.Bool.{Bool, true, false, cond}
+use Rattle.std.proofs.Common.{◌≡◌, Bool, true, false, cond, true≢false, ◌⊎◌, List, [], ◌∷◌, ◌++◌, ℕ, zero, suc, ◌%◌, ◌≤◌, ◌<◌, length, get_or, take, drop, refl, sym, ap, ap₂, ◌∙◌, inl, inr, ⊎_elim, arith, lt-ltb, le-ltb, eq-eqb, ne_eqb}
 use mathlib.Core.List.Memᴰ
-use mathlib.Core.List.{List, [], ◌∷◌, ◌++◌, Memᴰ}
-use mathlib.Core.Logic.{◌⊎◌, inl, inr, ⊎_elim}
-use Prim.Native.Nat.{ℕ, zero, suc, ◌%◌, ◌≤◌, ◌<◌}
-use native.Mathlib.Omega.{arith}
-use borrow.Author.Tests.{lt-ltb, le-ltb, eq-eqb, ne_eqb}
-use lib.ListN.{length, get_or, take, drop, replicate, get_or-append, get_or-eq_default}
+use mathlib.Core.List.{Memᴰ}
+use lib.ListN.{get_or-append}
 use Rattle.ordering.specs.Ordering.{less_bytes, row_key, key_at, insert_by, Ordered, none, takes, passes, Orders}
 use Rattle.ordering.specs.Inside.{Level}
 
 -- ---- the order of lists
 
 pub never : {t : Bool} → t ≡ true → t ≡ false → ⊥
-never h g = let z : ◌≡◌ {A = ℕ} 0 1 = cc in omega arith
+never h g = true≢false (sym h ∙ g)
 
 pub compared : (x y : ℕ) → (x < y) ⊎ ((x ≡ y) ⊎ (y < x))
 compared zero zero = inr (inl refl)
@@ -287,7 +282,3 @@ module _ {key : ℕ → List ℕ} {P : ℕ → Type 0} {n r : ℕ} {order order'
 pub key_at_lem : (s : List ℕ) (t : List (List ℕ)) (i : ℕ) → i < 256 → key_at s t i ≡ row_key s (get_or t i [])
 unfolding key_at
 key_at_lem s t i h = let e : i % 256 ≡ i = omega arith in rw e
-
--- a row that is not there has the key of a row of zeros
-pub key_none : (s : List ℕ) (t : List (List ℕ)) (i : ℕ) → length t ≤ i → row_key s (replicate 5 0) ≡ row_key s (get_or t i [])
-key_none s t i h = rw (get_or-eq_default t [] h)

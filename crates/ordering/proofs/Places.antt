@@ -1,18 +1,10 @@
--- From places to lists: the first place at which two lists differ decides which is before the other; halving finds the place of a row; and what stands in
--- the array in front of a place, then what is carried on and the rest, stays the same from turn to turn. Assumes nothing.
-use mathlib.Core.Path.{◌≡◌, refl, sym, ap, ◌∙◌}
-use mathlib.Core.Bool.{Bool, true, false, or-false}
-use mathlib.Core.List.{List, [], ◌∷◌, ◌++◌, append_assoc}
-use mathlib.Core.Logic.{◌⊎◌, inl, inr, ⊎_elim}
-use Prim.Native.Nat.{ℕ, suc, ◌+◌, ◌≤◌, ◌<◌}
-use native.Mathlib.Numerals.{add-one}
-use native.Mathlib.Omega.{arith}
-use borrow.Author.Tests.{ne_eqb}
-use lib.Dec.{ltb}
-use lib.ListN.{length, get_or, take, drop, set, length-take, length-set, drop_of_length-le}
-use lib.Seq.{take-suc-set, take-set-lt, drop-set-lt, take-take, get_or-take, set_split, length-take-le}
+-- The first place at which two lists differ decides which is before the other; halving finds the place of a row; and a row laid behind the others and turned to its place moves
+-- those behind it on by one. Assumes nothing.
+use Rattle.std.proofs.Common.{◌≡◌, Bool, true, false, ltb, ◌⊎◌, List, [], ◌∷◌, ◌++◌, ℕ, suc, ◌+◌, ◌-◌, ◌≤◌, ◌<◌, length, get_or, take, drop, set, refl, sym, ap, ◌∙◌, inl, inr, ⊎_elim, append_assoc, add-one, arith, length-append, length-drop, take-append-drop, length-take-le, get_or-take, take-take, take_at, drop_at, ne_eqb}
+use mathlib.Core.Bool.{or-false}
+use borrow.Rule.Slice.PartMut.{mid_of, put_mid}
+use lib.Seq.{set_split}
 use Rattle.fields.specs.Bytes.{shared_bytes}
-use Rattle.fields.proofs.Parts.{headed}
 use Rattle.fields.proofs.Same.{shared_rest, shared_other, shared_both}
 use Rattle.ordering.specs.Ordering.{less_bytes, insert_by}
 use Rattle.ordering.specs.Inside.{Level, Between}
@@ -99,9 +91,6 @@ or_more : (i j : ℕ) → i ≤ j → (i ≡ j) ⊎ (i < j)
 or_more i j h = ⊎_elim (λ l. inr l) (λ g. ⊎_elim (λ e. inl e) (λ l. absurd (omega arith)) g) (compared i j)
 
 module _ {key : ℕ → List ℕ} {x k : ℕ} {order : List ℕ} where
-  pub between_start : Between key x k order 0 k
-  between_start = record { stay = λ i h. absurd (omega arith); follow = λ i h l. absurd (omega arith) }
-
   module _ {low high m : ℕ} (v : Level key k order) (b : Between key x k order low high) (h : m < k) {y : ℕ} (n : y ≡ get_or order m 0) {t : Bool}
       (e : t ≡ less_bytes (key x) (key y)) where
     -- x is before the row in the middle, so also before those behind it
@@ -132,9 +121,6 @@ module _ {key : ℕ → List ℕ} {x k : ℕ} {order : List ℕ} where
           follow = b.follow;
         }
 
-  pub between_as : {low low' high high' : ℕ} → low' ≡ low → high' ≡ high → Between key x k order low high → Between key x k order low' high'
-  between_as e f b = rw (e, f) b
-
   -- x put at its place
   pub between_put : {p : ℕ} {order' : List ℕ} → Between key x k order p p → p ≤ k → k < length order
       → order' ≡ take p order ++ ((x ∷ drop p (take k order)) ++ drop (k + 1) order) → order' ≡ insert_by key x (take k order) ++ drop (k + 1) order
@@ -151,33 +137,31 @@ module _ {key : ℕ → List ℕ} {x k : ℕ} {order : List ℕ} where
       (λ i l u. rw (get_or-take k order i 0 (omega arith)) (b.follow i l (omega arith))) in
       e ∙ rw (i, take-take p k order h) (sym (append_assoc (take p order) (x ∷ drop p (take k order)) (drop (k + 1) order)))
 
--- ---- what stands from the place on is carried on by one
+-- ---- what stands from the place on is moved on by one
 
--- what stands in front of place j, then `carried` and the rest, is what is to be laid
-pub record Carries (laid : List ℕ) (k : ℕ) (first : List ℕ) (j carried : ℕ) (order : List ℕ) : Type 0 where
-  pub long : length order ≡ length first
-  pub is : laid ≡ take j order ++ ((carried ∷ drop j (take k order)) ++ drop (k + 1) order)
+-- the part of which x is the last
+upto_last : (b d : List ℕ) (x n : ℕ) → length b + 1 ≡ n → (take n (b ++ (x ∷ d)) ≡ b ++ (x ∷ [])) × (drop n (b ++ (x ∷ d)) ≡ d)
+upto_last b d x n e =
+    let l : length (b ++ (x ∷ [])) ≡ n = simp length-append (omega arith) in
+    let j : (b ++ (x ∷ [])) ++ d ≡ b ++ (x ∷ d) = append_assoc b (x ∷ []) d in
+    (rw j at (take_at (b ++ (x ∷ [])) d n l), rw j at (drop_at (b ++ (x ∷ [])) d n l))
 
-pub carries_start : (k : ℕ) (first : List ℕ) (p x : ℕ) → Carries (take p first ++ ((x ∷ drop p (take k first)) ++ drop (k + 1) first)) k first p x first
-carries_start k first p x = record { long = refl; is = refl }
-
-module _ {laid : List ℕ} {k j carried : ℕ} {first order : List ℕ} (c : Carries laid k first j carried order) where
-  pub carries_on : j < k → k < length first → Carries laid k first (j + 1) (get_or order j 0) (set order j carried)
-  carries_on h g =
-      let a : take (j + 1) (set order j carried) ≡ take j order ++ (carried ∷ []) = rw add-one (take-suc-set order j carried (omega (arith, c.long))) in
-      let b : drop (j + 1) (take k (set order j carried)) ≡ drop (j + 1) (take k order) =
-      ap (drop (j + 1)) (take-set-lt k order j carried h) ∙ drop-set-lt (j + 1) (take k order) j carried (omega arith) in
-      let d : drop (k + 1) (set order j carried) ≡ drop (k + 1) order = drop-set-lt (k + 1) order j carried (omega arith) in
-      let e : drop j (take k order) ≡ get_or order j 0 ∷ drop (j + 1) (take k order) =
-      headed (take k order) j (simp length-take (omega (arith, c.long))) ∙ rw (get_or-take k order j 0 h) in
-      record {
-        long = simp length-set c.long;
-        is = c.is ∙ rw (e, a, b, d) (sym (append_assoc (take j order) (carried ∷ []) ((get_or order j 0 ∷ drop (j + 1) (take k order)) ++ drop (k + 1) order)));
-      }
-
-  pub carries_end : k ≤ j → j ≤ k → k < length first → set order k carried ≡ laid
-  carries_end h g l =
-      let e : j ≡ k = omega arith in
-      let b : length (take k order) ≤ j = simp length-take (omega arith) in
-      let z : drop j (take k order) ≡ [] = drop_of_length-le (take k order) b in
-      sym (c.is ∙ rw (z, e, add-one) (sym (set_split order k carried (omega (arith, c.long)))))
+-- x laid behind the first k, and the part from p up to it turned by one
+pub turned : (order : List ℕ) (p k x : ℕ) {part : List ℕ} → p ≤ k → k < length order
+    → part ≡ drop (length (mid_of p (k + 1 - p) (set order k x)) - 1) (mid_of p (k + 1 - p) (set order k x))
+    ++ take (length (mid_of p (k + 1 - p) (set order k x)) - 1) (mid_of p (k + 1 - p) (set order k x))
+    → put_mid p (k + 1 - p) (set order k x) part ≡ take p order ++ ((x ∷ drop p (take k order)) ++ drop (k + 1) order)
+turned order p k x {part} h g e =
+    let b = drop p (take k order) in
+    let d = drop (k + 1) order in
+    let n : length (take k order) ≡ k = length-take-le k order (omega arith) in
+    let la : length (take p order) ≡ p = length-take-le p order (omega arith) in
+    let lb : length b + 1 ≡ k + 1 - p = simp length-drop (omega arith) in
+    let f : take k order ≡ take p order ++ b = sym (take-append-drop p (take k order)) ∙ rw (take-take p k order h) in
+    let s : set order k x ≡ take p order ++ (b ++ (x ∷ d)) =
+    rw add-one (set_split order k x g ∙ ap (λ (z : List ℕ). z ++ (x ∷ drop (suc k) order)) f ∙ append_assoc (take p order) b (x ∷ drop (suc k) order)) in
+    let w = upto_last b d x (k + 1 - p) lb in
+    let m : mid_of p (k + 1 - p) (set order k x) ≡ b ++ (x ∷ []) = rw (s, drop_at (take p order) (b ++ (x ∷ d)) p la) w.0 in
+    let lw : length (b ++ (x ∷ [])) - 1 ≡ length b = simp length-append (omega arith) in
+    let t : part ≡ x ∷ b = rw m at e ∙ rw (lw, drop_at b (x ∷ []) (length b) refl, take_at b (x ∷ []) (length b) refl) in
+    rw (s, take_at (take p order) (b ++ (x ∷ d)) p la, drop_at (take p order) (b ++ (x ∷ d)) p la, w.1, t)

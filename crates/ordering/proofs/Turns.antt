@@ -1,16 +1,11 @@
 -- Row after row: a row that no product makes is passed over, and any other is put in its place among those before it. Assumes nothing.
-use mathlib.Core.Path.{◌≡◌, refl, sym, ap, ◌∙◌}
-use mathlib.Core.List.{List, [], ◌++◌}
-use Prim.Native.Nat.{ℕ, ◌+◌, ◌%◌, ◌≤◌, ◌<◌}
-use native.Mathlib.Numerals.{add-one}
-use native.Mathlib.Omega.{arith}
-use lib.ListN.{length, get_or, take, drop, length-append, length-drop}
-use lib.Seq.{take_at, drop-append-add, drop-drop}
+use Rattle.std.proofs.Common.{◌≡◌, List, [], ◌++◌, ℕ, ◌+◌, ◌%◌, ◌≤◌, length, get_or, take, drop, refl, sym, ap, ◌∙◌, add-one, arith, drop-drop, take_at}
+use lib.Seq.{drop-append-add}
 use Rattle.products.specs.Sets.{InBoth}
 use Rattle.products.proofs.Laws.{has_row}
 use Rattle.ordering.specs.Ordering.{MadeRow, insert_by, none, takes, passes, Orders}
 use Rattle.ordering.specs.Inside.{Level}
-use Rattle.ordering.proofs.Laws.{insert_length, orders_few, orders_level}
+use Rattle.ordering.proofs.Laws.{insert_length, orders_level}
 
 -- ---- whether some product makes the row's move
 
@@ -37,12 +32,9 @@ module _ {key : ℕ → List ℕ} {P : ℕ → Type 0} where
     pub orders_pass : (P i → ⊥) → Orders key P (i + 1) first order kept
     orders_pass f = record { rows = o.rows; ordered = rw add-one (passes f o.ordered); many = o.many; laid = o.laid }
 
-    long : length first ≡ 256 → i < 256 → length order ≡ 256
-    long h l = rw o.laid (simp (length-append, length-drop) (omega (arith, orders_few o, o.many)))
-
-    pub orders_take : {order' : List ℕ} → (length order ≡ 256 → Level key kept order → order' ≡ insert_by key i (take kept order) ++ drop (kept + 1) order) → P i
-        → length first ≡ 256 → i < 256 → Orders key P (i + 1) first order' (kept + 1)
-    orders_take e p h l =
+    pub orders_take : {order' : List ℕ} → (Level key kept order → order' ≡ insert_by key i (take kept order) ++ drop (kept + 1) order) → P i
+        → Orders key P (i + 1) first order' (kept + 1)
+    orders_take e p =
         let a : take kept order ≡ o.rows = rw o.laid (take_at o.rows (drop kept first) kept (sym o.many)) in
         let b : drop (kept + 1) order ≡ drop (kept + 1) first =
         rw o.laid (ap (λ (k : ℕ). drop (k + 1) (o.rows ++ drop kept first)) o.many ∙ drop-append-add o.rows (drop kept first) 1 ∙ drop-drop 1 kept first) in
@@ -50,8 +42,5 @@ module _ {key : ℕ → List ℕ} {P : ℕ → Type 0} where
           rows = insert_by key i o.rows;
           ordered = rw add-one (takes p o.ordered);
           many = omega (arith, o.many, insert_length key i o.rows);
-          laid = e (long h l) (orders_level o) ∙ rw (a, b);
+          laid = e (orders_level o) ∙ rw (a, b);
         }
-
-    pub orders_upto : {n : ℕ} → i ≡ n → Orders key P n first order kept
-    orders_upto e = rw e at o

@@ -20,27 +20,13 @@ pub fn order_moves(
 ) -> usize
     ensures { Orders (key_at text.now moves.now) (MadeRow moves.now guards.now sets.now) (min (min (min count 256) (length moves.now)) (length guards.now)) order.old order.new result }
 {
-    all_places(*order);
-    let most = counts::at_most(count, 256);
-    let rows = counts::at_most(most, moves.len());
-    let n = counts::at_most(rows, guards.len());
-    let mut kept = 0;
-    let mut near = 0;
-    let mut i = 0;
-    while i < n {
-        let r = order_row(text, i, moves, guards, sets, order, kept, near);
-        kept = r.kept;
-        near = r.place;
-        i += 1;
+    let n = count.min(256).min(moves.len()).min(guards.len());
+    let mut ordered = Ordered { kept: 0, place: 0 };
+    for i in 0..n {
+        ordered = order_row(text, i, moves, guards, sets, order, ordered);
     }
-    kept
+    ordered.kept
 }
-
-// That there are 256 places is in the type alone: of an array that is lent no proof sees it, of one by
-// value it does.
-fn all_places(order: [u8; 256])
-    ensures { length order ≡ 256 }
-{}
 
 // How many rows stand in order, and where the last one was put.
 #[derive(Clone, Copy)]
@@ -49,9 +35,8 @@ struct Ordered {
     place: usize,
 }
 
-// Puts row i among the first `kept` of `order`, if some product makes its move; the answer is how many
-// there are then. Rows often come in order, so the place is looked for from `near` on, where the row
-// before was put.
+// Puts row i among those of `order`, if some product makes its move. Rows often come in order, so the place is
+// looked for from where the row before was put.
 fn order_row(
     text: &[u8],
     i: usize,
@@ -59,21 +44,19 @@ fn order_row(
     guards: &[[u64; 16]],
     sets: &[[u64; 16]],
     order: &mut [u8; 256],
-    kept: usize,
-    near: usize,
+    ordered: Ordered,
 ) -> Ordered
-    requires { (kept ≤ i) × (i < 256) × (i < length moves.now) × (i < length guards.now) }
-    ensures { ((first : List ℕ) → length first ≡ 256 → Orders (key_at text.now moves.now) (MadeRow moves.now guards.now sets.now) i first order.old kept → Orders (key_at text.now moves.now) (MadeRow moves.now guards.now sets.now) (i + 1) first order.new result.kept) × (result.kept ≤ i + 1) }
+    requires { (ordered.kept ≤ i) × (i < 256) × (i < length moves.now) × (i < length guards.now) }
+    ensures { (first : List ℕ) → Orders (key_at text.now moves.now) (MadeRow moves.now guards.now sets.now) i first order.old ordered.kept → Orders (key_at text.now moves.now) (MadeRow moves.now guards.now sets.now) (i + 1) first order.new result.kept }
 {
-    let row = moves[i];
-    let from = row[FROM] % 64;
-    if sets.len() <= from {
-        return Ordered { kept, place: near };
+    let Some(reached) = sets.get(moves[i][FROM] % 64) else {
+        return ordered;
+    };
+    if !members::meets(reached, &guards[i]) {
+        return ordered;
     }
-    if !members::meets(&sets[from], &guards[i]) {
-        return Ordered { kept, place: near };
-    }
-    let place = insert(text, moves, order, kept, i, near);
+    let Ordered { kept, place } = ordered;
+    let place = insert(text, moves, order, kept, i, place);
     Ordered {
         kept: kept + 1,
         place,
@@ -90,7 +73,7 @@ fn insert(
     near: usize,
 ) -> usize
     requires { (k < 256) × (x < 256) }
-    ensures { length order.old ≡ 256 → Level (key_at text.now moves.now) k order.old → order.new ≡ insert_by (key_at text.now moves.now) x (take k order.old) ++ drop (k + 1) order.old }
+    ensures { Level (key_at text.now moves.now) k order.old → order.new ≡ insert_by (key_at text.now moves.now) x (take k order.old) ++ drop (k + 1) order.old }
 {
     let place = place_of(text, moves, order, k, x, near);
     shift(order, place, k, x);
@@ -107,16 +90,17 @@ fn place_of(
     x: usize,
     near: usize,
 ) -> usize
-    requires { k < 256 }
+    requires { (k < 256) × (x < 256) }
     ensures { (result ≤ k) × (Level (key_at text.now moves.now) k order.now → Between (key_at text.now moves.now) x k order.now result result) }
 {
-    let row = row_at(moves, x % 256);
+    let row = row_at(moves, x);
+    // Not partition_point: it begins in the middle, and rows in order would be looked for from there each time.
     let mut low = 0;
     let mut high = k;
     while low < high {
         let at = look(low, high, near, k);
-        let y = number(order[at]);
-        if before(text, row, row_at(moves, y % 256)) {
+        let y = usize::from(order[at]);
+        if before(text, row, row_at(moves, y)) {
             high = at;
         } else {
             low = at + 1;
@@ -136,42 +120,26 @@ fn look(low: usize, high: usize, near: usize, k: usize) -> usize
         return middle;
     }
     if low <= near {
-        return counts::at_most(near, high - 1);
+        return near.min(high - 1);
     }
-    counts::at_most(low + (low - near) + 6, middle)
-}
-
-// The number of a row, as wide as tables ask for.
-pub fn number(x: u8) -> usize
-    ensures { result ≡ x }
-{
-    x as usize
+    (low + (low - near) + 6).min(middle)
 }
 
 // Row i, or a row of zeros where the table ends before it: both have the key of row i.
 fn row_at(moves: &[[usize; 5]], i: usize) -> [usize; 5]
-    ensures { (s : List ℕ) → row_key s result ≡ row_key s (get_or moves.now i []) }
+    requires { i < 256 }
+    ensures { (s : List ℕ) → row_key s result ≡ key_at s moves.now i }
 {
-    if moves.len() <= i {
-        return [0; 5];
-    }
-    moves[i]
+    moves.get(i).copied().unwrap_or([0; 5])
 }
 
 // Puts x at `place` among the first k of `order`: what stands from there on is carried on by one.
 fn shift(order: &mut [u8; 256], place: usize, k: usize, x: usize)
     requires { (place ≤ k) × (k < 256) × (x < 256) }
-    ensures { length order.old ≡ 256 → order.new ≡ take place order.old ++ ((x ∷ drop place (take k order.old)) ++ drop (k + 1) order.old) }
+    ensures { order.new ≡ take place order.old ++ ((x ∷ drop place (take k order.old)) ++ drop (k + 1) order.old) }
 {
-    let mut carried = x as u8;
-    let mut j = place;
-    while j < k {
-        let y = order[j];
-        order[j] = carried;
-        carried = y;
-        j += 1;
-    }
-    order[k] = carried;
+    order[k] = x as u8;
+    order[place..k + 1].rotate_right(1);
 }
 
 // Whether row a comes before row b.
@@ -195,6 +163,7 @@ fn before(text: &[u8], a: [usize; 5], b: [usize; 5]) -> bool
 }
 
 // Whether x comes before y by bytes: the first place behind what both share decides.
+// Not `x.cmp(&y).is_lt()`: a clean sheet whose actions begin alike (bench's 15-one-state) took a fifth longer.
 fn less(x: &[u8], y: &[u8]) -> bool
     ensures { result ≡ less_bytes x.now y.now }
 {

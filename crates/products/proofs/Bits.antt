@@ -1,55 +1,47 @@
 -- Laws of the bits of a word: of the operations on words, of the words that stand for a feature and for all products of n features, and how
 -- many there are. The rule of a word of the code is one computed test over its 64 bits. Assumes nothing.
-use mathlib.Core.Path.{◌≡◌, refl, sym, ap, ap₂, ◌∙◌}
+use mathlib.Core.Path.{◌≡◌, refl, ap, ◌∙◌}
 use mathlib.Core.Bool.{Bool, true, false, ◌&&◌}
 use mathlib.Core.Logic.{⊎_elim}
 use Prim.Native.Nat.{ℕ, zero, suc, ◌+◌, ◌-◌, ◌*◌, ◌/◌, ◌%◌, ◌^◌, ◌<◌, ◌≤◌, min, max}
 use native.Mathlib.Omega.{arith}
 use native.Mathlib.Numerals.{add-one}
-use native.Mathlib.Nat.{zero-div, div-eq_of_lt, eq-or-lt_of_le, pow-suc}
+use native.Mathlib.Nat.{eq-or-lt_of_le, pow-suc}
 use borrow.Author.Count.{below_none, below_more}
 use borrow.Author.Tests.{lt-ltb, le-ltb, ne_eqb}
-use lib.Bits.{bit_and, bit_or, bit_xor, and_shr, or_shr, xor_shr, and_step, or_step, xor_add_and}
+use lib.Bits.{bit_and, bit_or, bit_xor}
 use lib.Count.{ones, ones_step, ones-le}
 use lib.Dec.{T, eqb, ltb, eqb→eq, eqb-suc-suc}
-use lib.Pow.{pow_mono, shr-shr, field, mod-mod-pow}
+use lib.Pow.{pow_mono, field, mod-mod-pow}
+use Rattle.std.proofs.Common.{w64}
+use Rattle.std.specs.Int.{bit_not}
+use Rattle.std.proofs.lemmas.Nat.Bits.{bit_at_and, bit_at_or, bit_at_xor, bit_at_not, bit_at-suc, bit_at-zero, bit_at_above, same_from_bits_below}
 use Rattle.products.specs.Sets.{bit, one_if}
 use Rattle.products.specs.Orders.{bits}
 
 -- ---- what the operations on words do to each bit
 
-and_odd : (x y : ℕ) → bit_and x y % 2 ≡ min (x % 2) (y % 2)
-and_odd x y = omega (arith, and_step x y)
-
-or_odd : (x y : ℕ) → bit_or x y % 2 ≡ max (x % 2) (y % 2)
-or_odd x y = omega (arith, or_step x y)
-
-xor_odd : (x y : ℕ) → bit_xor x y % 2 ≡ (x % 2 + y % 2) % 2
-xor_odd x y = omega (arith, xor_add_and x y)
-
 pub bit_and_lem : (x y k : ℕ) → bit (bit_and x y) k ≡ min (bit x k) (bit y k)
-bit_and_lem x y k = ap (λ (n : ℕ). n % 2) (and_shr x y k) ∙ and_odd (x / 2 ^ k) (y / 2 ^ k)
+bit_and_lem = bit_at_and
 
 pub bit_or_lem : (x y k : ℕ) → bit (bit_or x y) k ≡ max (bit x k) (bit y k)
-bit_or_lem x y k = ap (λ (n : ℕ). n % 2) (or_shr x y k) ∙ or_odd (x / 2 ^ k) (y / 2 ^ k)
+bit_or_lem = bit_at_or
 
 pub bit_xor_lem : (x y k : ℕ) → bit (bit_xor x y) k ≡ (bit x k + bit y k) % 2
-bit_xor_lem x y k = ap (λ (n : ℕ). n % 2) (xor_shr x y k) ∙ xor_odd (x / 2 ^ k) (y / 2 ^ k)
+bit_xor_lem = bit_at_xor
 
 pub bit_without : (x y k : ℕ) → bit (bit_xor x (bit_and x y)) k ≡ bit x k - bit y k
 bit_without x y k = omega (arith, bit_xor_lem x (bit_and x y) k, bit_and_lem x y k)
 
-pub bit_choice : (x y z k : ℕ) → bit (bit_or (bit_and x y) (bit_xor z (bit_and z x))) k ≡ max (min (bit x k) (bit y k)) (bit z k - bit x k)
-bit_choice x y z k = bit_or_lem (bit_and x y) (bit_xor z (bit_and z x)) k ∙ ap₂ max (bit_and_lem x y k) (bit_without z x k)
+-- the same as `&` and `!` of words do it
+pub bit_and_not : (x y k : ℕ) → y < 2 ^ 64 → k < 64 → bit (bit_and x (bit_not w64 y)) k ≡ bit x k - bit y k
+bit_and_not x y k ly lk = omega (arith, bit_at_and x (bit_not w64 y) k, bit_at_not w64 y k ly lk)
 
 -- ---- words and their bits
 
 -- bit k + 1 of x is bit k of x / 2
 pub bit_suc : (x k : ℕ) → bit x (suc k) ≡ bit (x / 2) k
-bit_suc x k =
-    let e : 1 + k ≡ suc k = omega arith in
-    let h : x / 2 ^ 1 / 2 ^ k ≡ x / 2 ^ suc k = rw e at (shr-shr x 1 k) in
-    ap (λ (n : ℕ). n % 2) (sym h)
+bit_suc = bit_at-suc
 
 -- what is cut off above does not matter
 pub cut_bit : (x k m : ℕ) → k < m → bit (x % 2 ^ m) k ≡ bit x k
@@ -61,15 +53,11 @@ cut_bit x k m lk =
 
 -- words are equal where their bits are
 pub eq_bits : (k x y : ℕ) → x < 2 ^ k → y < 2 ^ k → ((j : ℕ) → j < k → bit x j ≡ bit y j) → x ≡ y
-eq_bits zero x y lx ly h = omega arith
-eq_bits (suc k) x y lx ly h =
-    let z : x / 2 ^ 0 % 2 ≡ y / 2 ^ 0 % 2 = h 0 (omega arith) in
-    let q : x / 2 ≡ y / 2 = eq_bits k (x / 2) (y / 2) (omega (arith, pow-suc 2 k)) (omega (arith, pow-suc 2 k)) (λ j lj. sym (bit_suc x j) ∙ h (suc j) (omega arith) ∙ bit_suc y j) in
-    omega arith
+eq_bits = same_from_bits_below
 
 -- no bit of 0 is 1
 pub zero_bit : (k : ℕ) → bit 0 k ≡ 0
-zero_bit k = ap (λ (n : ℕ). n % 2) (zero-div (2 ^ k))
+zero_bit = bit_at-zero
 
 -- a word that is not 0 has a bit that is 1
 pub some_bit : (n x : ℕ) → x < 2 ^ n → (x ≡ 0 → ⊥) → (k : ℕ) × (k < n) × (bit x k ≡ 1)
@@ -128,7 +116,7 @@ mask_bit = word_at (λ i k. bit k i)
 
 -- no number below 2 ^ j has a bit from j on
 pub past_bit : (j i : ℕ) → j ≤ i → (k : ℕ) → k < 2 ^ j → bit k i ≡ 0
-past_bit j i le k lk = ap (λ (n : ℕ). n % 2) (div-eq_of_lt {n = k} {m = 2 ^ i} (omega (arith, pow_mono {i = j} {j = i} le)))
+past_bit j i le k lk = bit_at_above k j i lk le
 
 -- below 6 a product's bit is that of its place in its word
 pub low_bits : (w k i : ℕ) → i < 6 → bit (w * 64 + k) i ≡ bit k i

@@ -1,11 +1,10 @@
 -- Each promise determines the answer: two answers that meet it are equal. The promise of `count` is an equation, and needs no law. Assumes nothing.
+use Rattle.std.proofs.Common.{Option, Some, None}
 use mathlib.Core.Path.{◌≡◌, refl, sym, ap, ◌∙◌}
 use mathlib.Core.Bool.{Bool, true, false}
 use mathlib.Core.List.{List}
 use Prim.Native.Nat.{ℕ, ◌<◌}
 use Rattle.products.specs.Sets.{has, Least, Finds, Words}
-use Rattle.products.specs.declared.Found.{Found}
-use Rattle.products.specs.declared.Found.TheVariants.{At, Nothing}
 use Rattle.products.proofs.Laws.{same_members}
 use Rattle.products.proofs.Ordered.{Ordered}
 
@@ -18,11 +17,11 @@ module _ {R : ℕ → ℕ → Type 0} (o : Ordered R) where
   pub least_determined : {P : ℕ → Type 0} {p q : ℕ} → Least R P p → Least R P q → p ≡ q
   least_determined {p = p} {q = q} h k = o p q (h.first q k.is) (k.first p h.is)
 
-  pub found_determined : (P : ℕ → Type 0) (f g : Found) → Finds R P f → Finds R P g → f ≡ g
-  found_determined P (At p) (At q) h k = ap At (least_determined h k)
-  found_determined P (At p) Nothing h k = absurd (k p h.is)
-  found_determined P Nothing (At q) h k = absurd (h q k.is)
-  found_determined P Nothing Nothing h k = refl
+  pub found_determined : (P : ℕ → Type 0) (f g : Option ℕ) → Finds R P f → Finds R P g → f ≡ g
+  found_determined P (Some p) (Some q) h k = ap Some (least_determined h k)
+  found_determined P (Some p) None h k = absurd (k p h.is)
+  found_determined P None (Some q) h k = absurd (h q k.is)
+  found_determined P None None h k = refl
 
 -- an answer of two, where what the one says excludes what the other says
 pub told_determined : {A B : Type 0} → (A → B → ⊥) → (r r' : Bool) → (r ≡ true → A) × (r ≡ false → B) → (r' ≡ true → A) × (r' ≡ false → B) → r ≡ r'

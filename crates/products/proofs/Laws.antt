@@ -1,4 +1,5 @@
 -- Laws of sets of products, for those who use them: what membership and counts are, whatever the set, and what a search found. Assumes nothing.
+use Rattle.std.proofs.Common.{Option, Some, None}
 use mathlib.Core.Path.{◌≡◌, refl, sym, subst, ◌∙◌}
 use mathlib.Core.List.{List, [], ◌∷◌}
 use mathlib.Core.Bool.{Bool, true, false}
@@ -9,8 +10,6 @@ use native.Mathlib.Nat.{add-zero}
 use lib.Count.{ones}
 use lib.ListN.{length, get_or, replicate, get_or-replicate}
 use lib.Seq.{ext_get_or}
-use Rattle.products.specs.declared.Found.{Found}
-use Rattle.products.specs.declared.Found.TheVariants.{At, Nothing}
 use Rattle.products.specs.Sets.{bit, has, one_if, In, Least, Finds, count_to, Words}
 use Rattle.products.specs.Orders.{bits}
 use Rattle.products.proofs.Bits.{eq_bits, zero_bit, ones_bit, ones_bits}
@@ -92,9 +91,9 @@ one_true true e = refl
 one_true false e = absurd (omega arith)
 
 -- a search's answer, once its case is known
-module _ (R : ℕ → ℕ → Type 0) (P : ℕ → Type 0) {f : Found} (l : Finds R P f) where
-  pub found_at : {p : ℕ} → f ≡ At p → Least R P p
+module _ (R : ℕ → ℕ → Type 0) (P : ℕ → Type 0) {f : Option ℕ} (l : Finds R P f) where
+  pub found_at : {p : ℕ} → f ≡ Some p → Least R P p
   found_at e = subst (Finds R P) e l
 
-  pub found_none : f ≡ Nothing → (p : ℕ) → P p → ⊥
+  pub found_none : f ≡ None → (p : ℕ) → P p → ⊥
   found_none e = subst (Finds R P) e l

@@ -1,8 +1,6 @@
 -- Sets of products: which products a set has, how many, and which comes first in an order. A set is sixteen words; how the words hold it is said
 -- once, in `has`, and everything else speaks of members. Assumes nothing: these are definitions.
-use Rattle.std.specs.Prelude.{◌≡◌, Bool, true, false, List, ℕ, zero, suc, ◌+◌, ◌/◌, ◌%◌, ◌^◌, ◌<◌, get_or, length}
-use Rattle.products.specs.declared.Found.{Found}
-use Rattle.products.specs.declared.Found.TheVariants.{At, Nothing}
+use Rattle.std.specs.Prelude.{◌≡◌, Bool, true, false, List, ℕ, zero, suc, ◌+◌, ◌/◌, ◌%◌, ◌^◌, ◌<◌, get_or, length, Option, Some, None}
 
 -- bit k of x, 0 or 1; of a product: 1 exactly if it has feature k ("the sum of 2^i for each feature it has")
 abbrev pub bit : ℕ → ℕ → ℕ
@@ -40,9 +38,9 @@ pub record Least (R : ℕ → ℕ → Type 0) (P : ℕ → Type 0) (p : ℕ) : T
   pub first : (q : ℕ) → P q → R p q
 
 -- the first product with the property P, or that there is none
-abbrev pub Finds : (ℕ → ℕ → Type 0) → (ℕ → Type 0) → Found → Type 0
-Finds R P (At p) = Least R P p
-Finds R P Nothing = (q : ℕ) → P q → ⊥
+abbrev pub Finds : (ℕ → ℕ → Type 0) → (ℕ → Type 0) → Option ℕ → Type 0
+Finds R P (Some p) = Least R P p
+Finds R P None = (q : ℕ) → P q → ⊥
 
 -- s has all 1,024 products of ten features; s lacks one of them
 abbrev pub Full : List ℕ → Type 0

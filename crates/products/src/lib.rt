@@ -6,12 +6,7 @@
 ghost use Rattle.std.specs.Prelude.{◌≡◌, ℕ, ◌-◌, ◌<◌, ◌^◌, min, max, ltb};
 ghost use Rattle.products.specs.Sets.{bit, has, one_if};
 
-// A product, or that there is none.
-#[derive(Clone, Copy)]
-pub enum Found {
-    At(usize),
-    Nothing,
-}
+use std::array::from_fn;
 
 // Which of two products comes first: the plainer one, which has fewer features, or as many and the smaller
 // number; or the one with the smaller number, whatever it has.
@@ -25,52 +20,28 @@ pub enum Order {
 pub fn both(a: [u64; 16], b: [u64; 16]) -> [u64; 16]
     ensures { (p : ℕ) → p < 1024 → has result p ≡ min (has a p) (has b p) }
 {
-    let mut r = [0u64; 16];
-    let mut i = 0;
-    while i < 16 {
-        r[i] = a[i] & b[i];
-        i += 1;
-    }
-    r
+    from_fn(|i| a[i] & b[i])
 }
 
 // The products that a or b has.
 pub fn either(a: [u64; 16], b: [u64; 16]) -> [u64; 16]
     ensures { (p : ℕ) → p < 1024 → has result p ≡ max (has a p) (has b p) }
 {
-    let mut r = [0u64; 16];
-    let mut i = 0;
-    while i < 16 {
-        r[i] = a[i] | b[i];
-        i += 1;
-    }
-    r
+    from_fn(|i| a[i] | b[i])
 }
 
 // The products that a has and b has not.
 pub fn without(a: [u64; 16], b: [u64; 16]) -> [u64; 16]
     ensures { (p : ℕ) → p < 1024 → has result p ≡ has a p - has b p }
 {
-    let mut r = [0u64; 16];
-    let mut i = 0;
-    while i < 16 {
-        r[i] = a[i] ^ (a[i] & b[i]);
-        i += 1;
-    }
-    r
+    from_fn(|i| a[i] & !b[i])
 }
 
 // a where c holds, and b elsewhere.
 pub fn choice(c: [u64; 16], a: [u64; 16], b: [u64; 16]) -> [u64; 16]
     ensures { (p : ℕ) → p < 1024 → has result p ≡ max (min (has c p) (has a p)) (has b p - has c p) }
 {
-    let mut r = [0u64; 16];
-    let mut i = 0;
-    while i < 16 {
-        r[i] = (c[i] & a[i]) | (b[i] ^ (b[i] & c[i]));
-        i += 1;
-    }
-    r
+    from_fn(|i| (c[i] & a[i]) | (b[i] & !c[i]))
 }
 
 // A word with all its 64 products.

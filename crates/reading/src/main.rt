@@ -2,23 +2,8 @@
 // reader alone.
 #![tactic(auto)]
 
-use console::{Input, Streams};
-use sheet::SheetRead;
-
 fn main(rt: HostRuntime) {
-    let streams = Streams {
-        stdin: rt.stdin(),
-        stdout: rt.stdout(),
-        stderr: rt.stderr(),
-    };
-    let mut buf = [0u8; 65537];
-    let input = console::read_input(&streams, &mut buf);
-    let Input::Whole(n) = input else {
-        return;
-    };
-    let mut room = [0u8; 64];
-    let m = answer(console::first(&buf, n), &mut room);
-    console::print(&streams, console::first(&room, m));
+    console::answer_input(&rt, answer);
 }
 
 // Lays `accepted` into the room, or the line of the refusal; answers how many bytes that is.
@@ -39,7 +24,7 @@ fn answer(text: &[u8], room: &mut [u8]) -> usize {
         &mut stop_guards,
     );
     match r {
-        SheetRead::Kept(_) => text::put_bytes(room, 0, b"accepted\n"),
-        SheetRead::Refused(refusal) => refusals::put_refusal(room, 0, refusal),
+        Ok(_) => text::put_bytes(room, 0, b"accepted\n"),
+        Err(refusal) => refusals::put_refusal(room, 0, refusal),
     }
 }

@@ -7,22 +7,8 @@ ghost use Rattle.products.specs.declared.Order.{Order};
 ghost use Rattle.calls.specs.Promise.{ReportPromise};
 ghost use Rattle.calls.specs.Shown.{Printed};
 
-use console::{Input, Streams};
-
 fn main(rt: HostRuntime) {
-    let streams = Streams {
-        stdin: rt.stdin(),
-        stdout: rt.stdout(),
-        stderr: rt.stderr(),
-    };
-    let mut buf = [0u8; 65537];
-    let input = console::read_input(&streams, &mut buf);
-    let Input::Whole(n) = input else {
-        return;
-    };
-    let mut room = [0u8; 65536];
-    let m = answer(console::first(&buf, n), &mut room);
-    console::print(&streams, console::first(&room, m));
+    console::answer_input(&rt, answer);
 }
 
 // Lays the report into the room, or the line of the refusal; answers how many bytes that is.

@@ -1,10 +1,10 @@
 -- A report has at most 9,545 bytes: 25 for each of 256 moves, 26 for each of 64 states, 23 for each of 64 stop lines, 9 for the depth. The one idea:
 -- no row is longer, whatever its verdict, since no number in it has more digits than its bound. Assumes nothing.
+use Rattle.std.proofs.Common.{Some, None}
 use mathlib.Core.List.{List, [], ◌∷◌}
 use Prim.Native.Nat.{ℕ, ◌*◌, ◌≤◌}
 use native.Mathlib.Omega.{arith}
 use lib.ListN.{length, length-append}
-use Rattle.products.specs.declared.Found.TheVariants.{At, Nothing}
 use Rattle.text.specs.Text.{decimal}
 use Rattle.text.proofs.Laws.{decimal_places}
 use Rattle.sheet.specs.Sheet.{Move, Stop, Sheet}
@@ -51,8 +51,8 @@ depth_row_lem {d = d} ok h = simp length-append (omega (arith, decimal_places d 
 module _ (R : ℕ → ℕ → Type 0) {r : Sheet} (ok : Accepted r) where
   move_row_lem : (m : Move) (v : Verdict) → m.line ≤ 65537 → JudgedAs R r m v → length (move_row m.line v) ≤ 25
   unfolding move_row word found_text made_of missed_of
-  move_row_lem m (Dead (At p)) l j = simp length-append (omega (arith, line_short l, product_short ok j.1.is.valid))
-  move_row_lem m (Dead Nothing) l j = simp length-append (omega (arith, line_short l))
+  move_row_lem m (Dead (Some p)) l j = simp length-append (omega (arith, line_short l, product_short ok j.1.is.valid))
+  move_row_lem m (Dead None) l j = simp length-append (omega (arith, line_short l))
   move_row_lem m (False p) l j = simp length-append (omega (arith, line_short l, product_short ok j.1.is.valid))
   move_row_lem m (Must p) l j = simp length-append (omega (arith, line_short l, product_short ok j.1.is.valid))
   move_row_lem m (May p q) l j = simp length-append (omega (arith, line_short l, product_short ok j.0.is.valid, product_short ok j.1.is.valid))

@@ -1,25 +1,20 @@
 -- The loops of rows. One record for each loop: for every sheet that the tables stand for there is a text of the rows so far, and it was laid. The
 -- rows that were laid are for the last elements of the sheet's list, which has the last line first. Assumes nothing.
-use mathlib.Core.Bool.{Bool, true, false, ◌||◌}
-use mathlib.Core.List.{List, [], ◌∷◌, ◌++◌, Memᴰ}
+use Rattle.std.proofs.Common.{None, Bool, true, false, ◌||◌, List, [], ◌∷◌, ◌++◌, ◌≡◌, refl, sym, ap, ◌∙◌, ℕ, zero, suc, ◌+◌, ◌-◌, ◌*◌, ◌/◌, ◌%◌, ◌^◌, ◌≤◌, ◌<◌, min, max, eqb, length, get_or, drop, arith, add-one}
+use mathlib.Core.List.{Memᴰ}
 use mathlib.Core.Logic.{⊎_elim}
-use mathlib.Core.Path.{◌≡◌, refl, sym, ap, ◌∙◌}
-use Prim.Native.Nat.{ℕ, zero, suc, ◌+◌, ◌-◌, ◌*◌, ◌/◌, ◌%◌, ◌^◌, ◌≤◌, ◌<◌, min, max}
 use native.Mathlib.Decide.{ℕ_discrete}
-use native.Mathlib.Nat.{eq-or-lt_of_le, div-eq_of_lt}
-use native.Mathlib.Numerals.{add-one}
-use native.Mathlib.Omega.{arith}
+use native.Mathlib.Nat.{eq-or-lt_of_le, div-eq_of_lt, pow-le-pow_right}
 use borrow.Author.Tests.{eq-eqb, ne_eqb}
 use lib.Bits.{bit_or}
-use lib.Dec.{eqb}
-use lib.ListN.{length, get_or, drop, drop_of_length-le, get_or-eq_default}
-use lib.Pow.{shr-shr}
+use lib.Count.{count_leading_zeros}
+use lib.ListN.{drop_of_length-le, get_or-eq_default}
+use Rattle.std.proofs.lemmas.Nat.{leading_length}
 use Rattle.text.specs.Text.{limit, Wrote}
 use Rattle.text.proofs.Laws.{wrote_none, wrote_then, wrote_long}
 use Rattle.products.specs.Sets.{bit, has, one_if, count_to}
-use Rattle.products.proofs.Bits.{bit_or_lem, zero_bit}
+use Rattle.products.proofs.Bits.{bit_or_lem}
 use Rattle.products.proofs.Laws.{nothing_has, has_row}
-use Rattle.products.specs.declared.Found.TheVariants.{Nothing}
 use Rattle.sheet.specs.declared.Counts.{Counts}
 use Rattle.sheet.specs.Sheet.{Move, Stop, Sheet}
 use Rattle.sheet.specs.Tables.{Rows, none, next}
@@ -106,7 +101,7 @@ module _ {c : Counts} {m g t h sets : List (List ℕ)} {r : Sheet} (w : Ready c 
 
 -- ---- a state that has no row is reached by nobody
 
-pub past_move : (R : ℕ → ℕ → Type 0) (sets : List (List ℕ)) {q : ℕ} (guard : List ℕ) → length sets ≤ q → MoveSets R (get_or sets q []) guard (Dead Nothing)
+pub past_move : (R : ℕ → ℕ → Type 0) (sets : List (List ℕ)) {q : ℕ} (guard : List ℕ) → length sets ≤ q → MoveSets R (get_or sets q []) guard (Dead None)
 past_move R sets guard l = rw (get_or-eq_default sets [] l) (none_move R guard)
 
 pub past_stop : (R : ℕ → ℕ → Type 0) (sets : List (List ℕ)) {q : ℕ} (guard out : List ℕ) → length sets ≤ q → StopSets R (get_or sets q []) guard out Idle
@@ -122,17 +117,9 @@ past_count sets l = rw (get_or-eq_default sets [] l) (nothing_counted 1024)
 
 -- ---- moves
 
--- the first n rows are for all moves of the sheet
-pub record MovesReady (n : ℕ) (m g sets : List (List ℕ)) (r : Sheet) : Type 0 where
-  pub counts : Counts
-  pub stops : List (List ℕ)
-  pub guards : List (List ℕ)
-  pub is : n ≡ min (min (min counts.moves 256) (length m)) (length g)
-  pub ready : Ready counts m g stops guards sets r
-
--- the rows of the first i moves, of n
-unfoldable pub MovesUpto : (ℕ → ℕ → Type 0) → ℕ → ℕ → Sheet → List ℕ → Type 0
-MovesUpto R n i r vs = MoveRows R r (drop (n - i) r.moves) vs
+-- the rows of the first i moves
+unfoldable pub MovesUpto : (ℕ → ℕ → Type 0) → ℕ → Sheet → List ℕ → Type 0
+MovesUpto R i r vs = MoveRows R r (drop (length r.moves - i) r.moves) vs
 
 -- the move x is the next of the list, and its line and verdict make its row
 add_move : {R : ℕ → ℕ → Type 0} {r : Sheet} (ms : List Move) {x : Move} {n k line : ℕ} (i : ℕ) (v : Verdict) (vs : List ℕ) → n ≡ k → line ≡ x.line
@@ -140,59 +127,51 @@ add_move : {R : ℕ → ℕ → Type 0} {r : Sheet} (ms : List Move) {x : Move} 
     → MoveRows R r (drop (n - (i + 1)) ms) (vs ++ move_row line v)
 add_move ms i v vs k line split judged q = rw (line, k, split) (MoveRows.next v judged (rw k at q))
 
-module _ {n : ℕ} {m g sets : List (List ℕ)} {r : Sheet} (w : MovesReady n m g sets r) where
-  moves_count : n ≡ w.counts.moves
-  moves_count =
-      let few = w.ready.stands.few in
-      let is : n ≡ min w.counts.moves 256 = w.is ∙ guarded_moves w.ready in
-      omega arith
-
-  moves_length : length r.moves ≡ n
-  moves_length = rows_length w.ready.stands.filled.moves.rows ∙ sym moves_count
-
-  no_move : (R : ℕ → ℕ → Type 0) → MovesUpto R n 0 r []
+module _ (R : ℕ → ℕ → Type 0) {c : Counts} {m g t h sets : List (List ℕ)} {r : Sheet} (w : Ready c m g t h sets r) where
+  no_move : MovesUpto R 0 r []
   unfolding MovesUpto
-  no_move R = let l = moves_length in rw (drop_of_length-le r.moves {i = n - 0} (omega arith)) MoveRows.none
+  no_move = rw (drop_of_length-le r.moves {i = length r.moves - 0} (omega arith)) MoveRows.none
 
-  every_move : (R : ℕ → ℕ → Type 0) {i : ℕ} {vs : List ℕ} → n ≤ i → MovesUpto R n i r vs → MoveRows R r r.moves vs
+  every_move : {i : ℕ} {vs : List ℕ} → min (min (min c.moves 256) (length m)) (length g) ≤ i → MovesUpto R i r vs → MoveRows R r r.moves vs
   unfolding MovesUpto
-  every_move R {i} h q = let z : n - i ≡ 0 = omega arith in rw z at q
+  every_move {i} l q =
+      let few = w.stands.few in
+      let z : length r.moves - i ≡ 0 = omega (arith, guarded_moves w, rows_length w.stands.filled.moves.rows) in
+      rw z at q
 
-  one_move : (R : ℕ → ℕ → Type 0) {i line : ℕ} (v : Verdict) (vs : List ℕ) → i < n → line ≡ get_or (get_or m i []) 0 0
+  move_there : {i : ℕ} → i < min (min (min c.moves 256) (length m)) (length g) → i < c.moves
+  move_there l = omega arith
+
+  one_move : {i line : ℕ} (v : Verdict) (vs : List ℕ) → i < min (min (min c.moves 256) (length m)) (length g) → line ≡ get_or (get_or m i []) 0 0
       → MoveSets R (get_or sets (get_or (get_or m i []) 1 0 % 64) []) (get_or g i []) v
-      → MovesUpto R n i r vs → MovesUpto R n (i + 1) r (vs ++ move_row line v)
+      → MovesUpto R i r vs → MovesUpto R (i + 1) r (vs ++ move_row line v)
   unfolding MovesUpto
-  one_move R {i} {line} v vs h e s q =
-      let k = moves_count in
-      let l : i < w.counts.moves = omega arith in
-      let x = row_next w.ready.stands.filled.moves.rows w.ready.stands.filled.move_guards.rows l in
+  one_move {i} {line} v vs l e s q =
+      let x = row_next {i = i} w.stands.filled.moves.rows w.stands.filled.move_guards.rows (move_there l) in
       let is = x.2.is in
-      let good = (good_move w.ready.accepted.moves x.4).from in
+      let good = (good_move w.accepted.moves x.4).from in
       let from : get_or (get_or m i []) 1 0 ≡ x.0.from = ap (λ (row : List ℕ). get_or row 1 0) is in
       let place : get_or (get_or m i []) 1 0 % 64 ≡ x.0.from = omega arith in
-      let sets-there = rw place at s in
-      let judged = move_judged w.ready.accepted w.ready.reaches x.0 x.4 (get_or g i []) x.3 R v sets-there in
+      let judged = move_judged w.accepted w.reaches x.0 x.4 (get_or g i []) x.3 R v (rw place at s) in
       let line_is : line ≡ x.0.line = e ∙ ap (λ (row : List ℕ). get_or row 0 0) is in
-      add_move r.moves i v vs k line_is x.1 judged q
+      add_move r.moves i v vs (rows_length w.stands.filled.moves.rows) line_is x.1 judged q
 
 -- ---- the loop over moves
 
-module _ (R : ℕ → ℕ → Type 0) {n : ℕ} {m g sets : List (List ℕ)} {room : List ℕ} {at : ℕ} where
-  pub moves_none : length room ≤ limit → Laid (MovesReady n m g sets) (MovesUpto R n) room at 0 room at
-  moves_none h = laid_none h (λ r w. no_move w R)
+module _ (R : ℕ → ℕ → Type 0) {c : Counts} {m g t h sets : List (List ℕ)} {room : List ℕ} {at : ℕ} where
+  pub moves_none : length room ≤ limit → Laid (Ready c m g t h sets) (MovesUpto R) room at 0 room at
+  moves_none l = laid_none l (λ r w. no_move R w)
 
-  pub moves_more : {i line : ℕ} (v : Verdict) {room' room'' : List ℕ} {next next'' : ℕ} → Laid (MovesReady n m g sets) (MovesUpto R n) room at i room' next
-      → Wrote room' next (move_row line v) room'' next'' → i < n
-      → (line ≡ get_or (get_or m i []) 0 0) × MoveSets R (get_or sets (get_or (get_or m i []) 1 0 % 64) []) (get_or g i []) v
-      → Laid (MovesReady n m g sets) (MovesUpto R n) room at (i + 1) room'' next''
-  moves_more {line = line} v l w h j = laid_more l (wrote_long w) (λ r p. (move_row line v, λ vs q. one_move p R v vs h j.0 j.1 q, w))
+  module _ {i : ℕ} {room' : List ℕ} {next : ℕ} (l : Laid (Ready c m g t h sets) (MovesUpto R) room at i room' next) where
+    pub moves_more : {line : ℕ} (v : Verdict) {room'' : List ℕ} {next'' : ℕ} → Wrote room' next (move_row line v) room'' next''
+        → i < min (min (min c.moves 256) (length m)) (length g)
+        → (line ≡ get_or (get_or m i []) 0 0) × MoveSets R (get_or sets (get_or (get_or m i []) 1 0 % 64) []) (get_or g i []) v
+        → Laid (Ready c m g t h sets) (MovesUpto R) room at (i + 1) room'' next''
+    moves_more {line} v w k j = laid_more l (wrote_long w) (λ r p. (move_row line v, λ vs q. one_move R p v vs k j.0 j.1 q, w))
 
-  pub moves_all : {i : ℕ} {room' : List ℕ} {next : ℕ} → Laid (MovesReady n m g sets) (MovesUpto R n) room at i room' next → n ≤ i → {c : Counts} → n ≡ min (min (min c.moves 256) (length m)) (length g)
-      → (t h : List (List ℕ)) (r : Sheet) → Ready c m g t h sets r → (vs : List ℕ) × MoveRows R r r.moves vs × Wrote room at vs room' next
-  moves_all l h {c} e stops guards r ready =
-      let w : MovesReady n m g sets r = record { counts = c; stops = stops; guards = guards; is = e; ready = ready } in
-      let x = l.text r w in
-      (x.0, every_move w R h x.1, x.2)
+    pub moves_all : min (min (min c.moves 256) (length m)) (length g) ≤ i → (r : Sheet) → Ready c m g t h sets r
+        → (vs : List ℕ) × MoveRows R r r.moves vs × Wrote room at vs room' next
+    moves_all k r w = let x = l.text r w in (x.0, every_move R w k x.1, x.2)
 
 -- ---- states
 
@@ -200,11 +179,10 @@ module _ (R : ℕ → ℕ → Type 0) {n : ℕ} {m g sets : List (List ℕ)} {ro
 unfoldable pub StatesUpto : (ℕ → ℕ → Type 0) → ℕ → Sheet → List ℕ → Type 0
 StatesUpto R q r vs = StateRows R r q vs
 
--- the tables with some guards of the moves m are ready, and `out` is what the guards give
-pub record StatesReady (c : Counts) (m t h sets out : List (List ℕ)) (r : Sheet) : Type 0 where
-  pub guards : List (List ℕ)
-  pub ready : Ready c m guards t h sets r
-  pub outward : Outward c m guards sets out
+-- the tables are ready, and `out` is what the guards of the moves give
+pub record Outgoing (c : Counts) (m g t h sets out : List (List ℕ)) (r : Sheet) : Type 0 where
+  pub ready : Ready c m g t h sets r
+  pub outward : Outward c m g sets out
 
 -- a mark is 1 where its test is true
 mark_told : {n : ℕ} (b : Bool) → n ≡ one_if b → eqb n 1 ≡ b
@@ -261,53 +239,35 @@ named_at c m t k n q = eqb q (c.start % 64) || (row_at m 1 q k || (row_at m 4 q 
 
 -- the marks of the states that a move line leaves, that a stop line is for, and that any line names, by the rows that are there
 pub record Marks (c : Counts) (m t : List (List ℕ)) (leaves stopped named : ℕ) : Type 0 where
-  pub small : named < 2 ^ 64
   pub left : Marked leaves (λ q. row_at m 1 q (min (min c.moves 256) (length m)))
   pub declared : Marked stopped (λ q. row_at t 1 q (min (min c.stops 64) (length t)))
   pub by_line : Marked named (named_at c m t (min (min c.moves 256) (length m)) (min (min c.stops 64) (length t)))
 
-pub marks_are : {c : Counts} {m t : List (List ℕ)} {leaves : ℕ} (ends : ℕ) {stopped named : ℕ} → named < 2 ^ 64
+pub marks_are : {c : Counts} {m t : List (List ℕ)} {leaves : ℕ} (ends : ℕ) {stopped named : ℕ}
     → Marked leaves (λ q. row_at m 1 q (min (min c.moves 256) (length m))) → Marked ends (λ q. row_at m 4 q (min (min c.moves 256) (length m)))
     → Marked stopped (λ q. row_at t 1 q (min (min c.stops 64) (length t)))
     → ((a b d : ℕ → Bool) → Marked leaves a → Marked ends b → Marked stopped d → Marked named (λ q. eqb q (c.start % 64) || (a q || (b q || d q))))
     → Marks c m t leaves stopped named
-marks_are {c} {m} {t} ends small left ended declared joined =
+marks_are {c} {m} {t} ends left ended declared joined =
     record {
-      small = small;
       left = left;
       declared = declared;
       by_line = joined (λ q. row_at m 1 q (min (min c.moves 256) (length m))) (λ q. row_at m 4 q (min (min c.moves 256) (length m)))
           (λ q. row_at t 1 q (min (min c.stops 64) (length t))) left ended declared;
     }
 
--- `rest` is the word of names without the states below q
-pub record Left (named q rest : ℕ) : Type 0 where
-  pub most : q ≤ 64
-  pub is : rest ≡ named / 2 ^ q
+-- behind the highest bit of the names there is no state
+pub behind_small : {named : ℕ} → named < 2 ^ 64 → named < 2 ^ (64 - count_leading_zeros 64 named)
+behind_small {named} l =
+    let z = leading_length 64 named l in
+    let e : 64 - count_leading_zeros 64 named ≡ z.0 = omega (arith, z.1) in
+    rw e z.2
 
-pub left_all : {named : ℕ} → Left named 0 named
-left_all = record { most = omega arith; is = omega arith }
-
-module _ {named q rest : ℕ} (l : Left named q rest) where
-  -- where a state is left, q is one of the 64
-  pub left_small : named < 2 ^ 64 → (rest ≡ 0 → ⊥) → q < 64
-  left_small small some =
-      ⊎_elim
-      (λ (e : q ≡ 64).
-      let is : rest ≡ named / 2 ^ 64 = rw e at l.is in
-      absurd (some (is ∙ div-eq_of_lt small)))
-      (λ (k : q < 64). k)
-      (eq-or-lt_of_le l.most)
-
-  pub left_next : q < 64 → Left named (q + 1) (rest / 2)
-  left_next k = record { most = omega arith; is = ap (λ (n : ℕ). n / 2) l.is ∙ shr-shr named q 1 }
-
-  -- bit j of what is left is the bit of the state q + j
-  left_bit : (j : ℕ) → bit named (q + j) ≡ bit rest j
-  left_bit j = ap (λ (n : ℕ). n % 2) (sym (shr-shr named q j)) ∙ ap (λ (n : ℕ). bit n j) (sym l.is)
-
-  left_first : bit named q ≡ rest % 2
-  left_first = ap (λ (n : ℕ). n % 2) (sym l.is)
+behind_none : {n behind : ℕ} (j : ℕ) → n < 2 ^ behind → behind ≤ j → bit n j ≡ 0
+behind_none {n} {behind} j l k =
+    let b : 2 ^ behind ≤ 2 ^ j = pow-le-pow_right {n = 2} (omega arith) k in
+    let z : n / 2 ^ j ≡ 0 = div-eq_of_lt (omega arith) in
+    ap (λ (x : ℕ). x % 2) z
 
 module _ {c : Counts} {m g t h sets : List (List ℕ)} {r : Sheet} (w : Ready c m g t h sets r) {leaves stopped named : ℕ} (k : Marks c m t leaves stopped named) where
   marks_told : {out : List (List ℕ)} → Outward c m g sets out → Told c m g t sets out leaves stopped
@@ -339,56 +299,50 @@ no_rows q (suc d) s f =
 
 -- ---- the loop over states
 
-module _ (R : ℕ → ℕ → Type 0) {c : Counts} {m t h sets out : List (List ℕ)} {room : List ℕ} {at : ℕ} where
-  pub states_none : length room ≤ limit → Laid (StatesReady c m t h sets out) (StatesUpto R) room at 0 room at
+module _ (R : ℕ → ℕ → Type 0) {c : Counts} {m g t h sets out : List (List ℕ)} {room : List ℕ} {at : ℕ} where
+  pub states_none : length room ≤ limit → Laid (Outgoing c m g t h sets out) (StatesUpto R) room at 0 room at
   unfolding StatesUpto
   states_none l = laid_none l (λ r w. StateRows.none)
 
-  module _ {leaves stopped named q rest : ℕ} (k : Marks c m t leaves stopped named) (f : Left named q rest) {room' : List ℕ} {next : ℕ}
-      (l : Laid (StatesReady c m t h sets out) (StatesUpto R) room at q room' next) where
+  module _ {leaves stopped named q : ℕ} (k : Marks c m t leaves stopped named) {room' : List ℕ} {next : ℕ}
+      (l : Laid (Outgoing c m g t h sets out) (StatesUpto R) room at q room' next) where
     -- no line names the state q
-    pub states_passed : {room'' : List ℕ} {next'' : ℕ} → room'' ≡ room' → next'' ≡ next → (rest ≡ 0 → ⊥) → (rest % 2 ≡ 1 → ⊥)
-        → Laid (StatesReady c m t h sets out) (StatesUpto R) room at (q + 1) room'' next''
+    pub states_passed : q < 64 → {room'' : List ℕ} {next'' : ℕ} → room'' ≡ room' → next'' ≡ next → (bit named q ≡ 1 → ⊥)
+        → Laid (Outgoing c m g t h sets out) (StatesUpto R) room at (q + 1) room'' next''
     unfolding StatesUpto
-    states_passed i j some z =
-        let lq = left_small f k.small some in
-        let e : bit named q ≡ 0 = omega (arith, left_first f) in
+    states_passed lq i j z =
+        let e : bit named q ≡ 0 = omega arith in
         rw (i, j)
         (record {
           long = l.long;
           text = λ r w. let x = l.text r w in (x.0, rw add-one (StateRows.other (is_other w.ready k lq e) x.1), x.2);
         })
 
-    pub states_more : {room'' room''' : List ℕ} {next'' next''' : ℕ} → room''' ≡ room'' → next''' ≡ next'' → (rest ≡ 0 → ⊥) → rest % 2 ≡ 1 → length room'' ≡ length room'
-        → ((m g : List (List ℕ)) (r : Sheet) → Ready c m g t h sets r → Told c m g t sets out leaves stopped → Named r q
+    pub states_more : q < 64 → {room'' room''' : List ℕ} {next'' next''' : ℕ} → room''' ≡ room'' → next''' ≡ next'' → bit named q ≡ 1 → length room'' ≡ length room'
+        → ((r : Sheet) → Ready c m g t h sets r → Told c m g t sets out leaves stopped → Named r q
         → (vs : List ℕ) × ((before : List ℕ) → StateRows R r q before → StateRows R r (suc q) (before ++ vs)) × Wrote room' next vs room'' next'')
-        → Laid (StatesReady c m t h sets out) (StatesUpto R) room at (q + 1) room''' next'''
+        → Laid (Outgoing c m g t h sets out) (StatesUpto R) room at (q + 1) room''' next'''
     unfolding StatesUpto
-    states_more i j some o e put =
-        let lq = left_small f k.small some in
+    states_more lq i j o e put =
         rw (i, j)
-        (laid_more l e
-        (λ r w. let x = put m w.guards r w.ready (marks_told w.ready k w.outward) (is_named w.ready k lq (left_first f ∙ o)) in
-        (x.0, λ vs s. rw add-one (x.1 vs s), x.2)))
+        (laid_more l e (λ r w. let x = put r w.ready (marks_told w.ready k w.outward) (is_named w.ready k lq o) in (x.0, λ vs s. rw add-one (x.1 vs s), x.2)))
 
-    pub states_all : rest ≡ 0 → (g : List (List ℕ)) (r : Sheet) → Ready c m g t h sets r → Outward c m g sets out
+    pub states_all : {behind : ℕ} → named < 2 ^ behind → behind ≤ q → q ≤ 64 → (r : Sheet) → Ready c m g t h sets r → Outward c m g sets out
         → (vs : List ℕ) × StateRows R r 64 vs × Wrote room at vs room' next
     unfolding StatesUpto
-    states_all z g r w o =
-        let x = l.text r (record { guards = g; ready = w; outward = o }) in
-        let most = f.most in
+    states_all small past most r w o =
+        let x = l.text r (record { ready = w; outward = o }) in
         let e : q + (64 - q) ≡ 64 = omega arith in
-        let none : (j : ℕ) → bit rest j ≡ 0 = λ j. ap (λ (n : ℕ). bit n j) z ∙ zero_bit j in
-        (x.0, rw e at (no_rows q (64 - q) x.1 (λ j lj. is_other w k (omega arith) (left_bit f j ∙ none j))), x.2)
+        (x.0, rw e at (no_rows q (64 - q) x.1 (λ j lj. is_other w k (omega arith) (behind_none (q + j) small (omega arith)))), x.2)
 
 -- one named state's row
-pub state_laid : (R : ℕ → ℕ → Type 0) {c : Counts} {t h sets out : List (List ℕ)} {leaves stopped q : ℕ} → q < 64
+pub state_laid : (R : ℕ → ℕ → Type 0) {c : Counts} {m g t h sets out : List (List ℕ)} {leaves stopped q : ℕ} → q < 64
     → (v : StateVerdict) {k at next : ℕ} {room room' : List ℕ} → Wrote room at (state_row q v k) room' next → k ≡ count_to (get_or sets q []) 1024
     → ((n : ℕ) → n ≡ min (min (min c.stops 64) (length t)) (length h) → bit stopped q ≡ one_if (row_at t 1 q n)
     → (excused : List ℕ) × ((p : ℕ) → p < 1024 → has excused p ≡ max (has (get_or out q []) p) (guards_at t h q p n)) × StateSets R (get_or sets q []) (eqb (bit leaves q) 1) excused v)
-    → (m g : List (List ℕ)) (r : Sheet) → Ready c m g t h sets r → Told c m g t sets out leaves stopped → Named r q
+    → (r : Sheet) → Ready c m g t h sets r → Told c m g t sets out leaves stopped → Named r q
     → (vs : List ℕ) × ((before : List ℕ) → StateRows R r q before → StateRows R r (suc q) (before ++ vs)) × Wrote room at vs room' next
-state_laid R {c} {q = q} lq v {k} l e judged m g r w told i =
+state_laid R {c} {m} {q = q} lq v {k} l e judged r w told i =
     let x = judged (min c.stops 64) (sym (guarded_stops w)) (told.declared q lq) in (
       state_row q v k,
       λ before s.
@@ -400,11 +354,11 @@ state_laid R {c} {q = q} lq v {k} l e judged m g r w told i =
     )
 
 -- the same where the state has no row
-pub state_past : (R : ℕ → ℕ → Type 0) {c : Counts} {t h sets out : List (List ℕ)} {leaves stopped q : ℕ} → q < 64 → length sets ≤ q
+pub state_past : (R : ℕ → ℕ → Type 0) {c : Counts} {m g t h sets out : List (List ℕ)} {leaves stopped q : ℕ} → q < 64 → length sets ≤ q
     → {at next : ℕ} {room room' : List ℕ} → Wrote room at (state_row q Unreached 0) room' next
-    → (m g : List (List ℕ)) (r : Sheet) → Ready c m g t h sets r → Told c m g t sets out leaves stopped → Named r q
+    → (r : Sheet) → Ready c m g t h sets r → Told c m g t sets out leaves stopped → Named r q
     → (vs : List ℕ) × ((before : List ℕ) → StateRows R r q before → StateRows R r (suc q) (before ++ vs)) × Wrote room at vs room' next
-state_past R {sets = sets} {q = q} lq past l m g r w told i = (
+state_past R {sets = sets} {q = q} lq past l r w told i = (
   state_row q Unreached 0,
   λ before s.
       StateRows.named {k = 0} Unreached i (λ p b. omega (arith, has_row sets q ((reached_agree w.accepted w.reaches lq).back p b)))
@@ -414,18 +368,9 @@ state_past R {sets = sets} {q = q} lq past l m g r w told i = (
 
 -- ---- stop lines
 
--- the first n rows are for all stop lines of the sheet, and `out` is what the guards of its moves give
-pub record StopsReady (n : ℕ) (t h sets out : List (List ℕ)) (r : Sheet) : Type 0 where
-  pub counts : Counts
-  pub moves : List (List ℕ)
-  pub guards : List (List ℕ)
-  pub is : n ≡ min (min (min counts.stops 64) (length t)) (length h)
-  pub ready : Ready counts moves guards t h sets r
-  pub outward : Outward counts moves guards sets out
-
--- the rows of the first i stop lines, of n
-unfoldable pub StopsUpto : (ℕ → ℕ → Type 0) → ℕ → ℕ → Sheet → List ℕ → Type 0
-StopsUpto R n i r vs = StopRows R r (drop (n - i) r.stops) vs
+-- the rows of the first i stop lines
+unfoldable pub StopsUpto : (ℕ → ℕ → Type 0) → ℕ → Sheet → List ℕ → Type 0
+StopsUpto R i r vs = StopRows R r (drop (length r.stops - i) r.stops) vs
 
 -- the same for the stop line x
 add_stop : {R : ℕ → ℕ → Type 0} {r : Sheet} (ds : List Stop) {x : Stop} {n k line : ℕ} (i : ℕ) (v : StopVerdict) (vs : List ℕ) → n ≡ k → line ≡ x.line
@@ -433,27 +378,27 @@ add_stop : {R : ℕ → ℕ → Type 0} {r : Sheet} (ds : List Stop) {x : Stop} 
     → StopRows R r (drop (n - (i + 1)) ds) (vs ++ stop_row line v)
 add_stop ds i v vs k line split judged q = rw (line, k, split) (StopRows.next v judged (rw k at q))
 
-module _ {n : ℕ} {t h sets out : List (List ℕ)} {r : Sheet} (w : StopsReady n t h sets out r) where
-  stops_count : n ≡ w.counts.stops
-  stops_count =
+module _ (R : ℕ → ℕ → Type 0) {c : Counts} {m g t h sets out : List (List ℕ)} {r : Sheet} (w : Outgoing c m g t h sets out r) where
+  no_stop : StopsUpto R 0 r []
+  unfolding StopsUpto
+  no_stop = rw (drop_of_length-le r.stops {i = length r.stops - 0} (omega arith)) StopRows.none
+
+  every_stop : {i : ℕ} {vs : List ℕ} → min (min (min c.stops 64) (length t)) (length h) ≤ i → StopsUpto R i r vs → StopRows R r r.stops vs
+  unfolding StopsUpto
+  every_stop {i} l q =
       let few = w.ready.stands.stops_few in
-      let is : n ≡ min w.counts.stops 64 = w.is ∙ guarded_stops w.ready in
-      omega arith
+      let z : length r.stops - i ≡ 0 = omega (arith, guarded_stops w.ready, rows_length w.ready.stands.filled.stops.rows) in
+      rw z at q
 
-  no_stop : (R : ℕ → ℕ → Type 0) → StopsUpto R n 0 r []
-  unfolding StopsUpto
-  no_stop R =
-      let k = stops_count in
-      let l = rows_length w.ready.stands.filled.stops.rows in
-      rw (drop_of_length-le r.stops {i = n - 0} (omega arith)) StopRows.none
+  stop_there : {i : ℕ} → i < min (min (min c.stops 64) (length t)) (length h) → i < c.stops
+  stop_there l = omega arith
 
-  one_stop : (R : ℕ → ℕ → Type 0) {i : ℕ} (v : StopVerdict) (vs : List ℕ) → i < n
+  one_stop : {i : ℕ} (v : StopVerdict) (vs : List ℕ) → i < min (min (min c.stops 64) (length t)) (length h)
       → StopSets R (get_or sets (get_or (get_or t i []) 1 0 % 64) []) (get_or h i []) (get_or out (get_or (get_or t i []) 1 0 % 64) []) v
-      → StopsUpto R n i r vs → StopsUpto R n (i + 1) r (vs ++ stop_row (get_or (get_or t i []) 0 0) v)
+      → StopsUpto R i r vs → StopsUpto R (i + 1) r (vs ++ stop_row (get_or (get_or t i []) 0 0) v)
   unfolding StopsUpto
-  one_stop R {i} v vs l s q =
-      let k = stops_count in
-      let x = row_next {i = i} w.ready.stands.filled.stops.rows w.ready.stands.filled.stop_guards.rows (omega arith) in
+  one_stop {i} v vs l s q =
+      let x = row_next {i = i} w.ready.stands.filled.stops.rows w.ready.stands.filled.stop_guards.rows (stop_there l) in
       let small = (good_stop w.ready.accepted.stops x.4).state in
       let state : get_or (get_or t i []) 1 0 ≡ x.0.state = ap (λ (row : List ℕ). get_or row 1 0) x.2 in
       let place : get_or (get_or t i []) 1 0 % 64 ≡ x.0.state = omega arith in
@@ -461,24 +406,24 @@ module _ {n : ℕ} {t h sets out : List (List ℕ)} {r : Sheet} (w : StopsReady 
       stop_judged w.ready.accepted w.ready.reaches w.ready.stands x.0 x.4 (get_or h i []) x.3 (get_or out x.0.state [])
       (w.outward x.0.state (omega arith)) R v (rw place at s) in
       let line : get_or (get_or t i []) 0 0 ≡ x.0.line = ap (λ (row : List ℕ). get_or row 0 0) x.2 in
-      add_stop r.stops i v vs k line x.1 judged q
+      add_stop r.stops i v vs (rows_length w.ready.stands.filled.stops.rows) line x.1 judged q
 
 -- ---- the loop over stop lines
 
-module _ (R : ℕ → ℕ → Type 0) {n : ℕ} {t h sets out : List (List ℕ)} {room : List ℕ} {at : ℕ} where
-  pub stops_none : length room ≤ limit → Laid (StopsReady n t h sets out) (StopsUpto R n) room at 0 room at
-  stops_none l = laid_none l (λ r w. no_stop w R)
+module _ (R : ℕ → ℕ → Type 0) {c : Counts} {m g t h sets out : List (List ℕ)} {room : List ℕ} {at : ℕ} where
+  pub stops_none : length room ≤ limit → Laid (Outgoing c m g t h sets out) (StopsUpto R) room at 0 room at
+  stops_none l = laid_none l (λ r w. no_stop R w)
 
-  pub stops_more : {i : ℕ} (v : StopVerdict) {room' room'' : List ℕ} {next next'' : ℕ} → Laid (StopsReady n t h sets out) (StopsUpto R n) room at i room' next
-      → Wrote room' next (stop_row (get_or (get_or t i []) 0 0) v) room'' next'' → i < n
-      → StopSets R (get_or sets (get_or (get_or t i []) 1 0 % 64) []) (get_or h i []) (get_or out (get_or (get_or t i []) 1 0 % 64) []) v
-      → Laid (StopsReady n t h sets out) (StopsUpto R n) room at (i + 1) room'' next''
-  stops_more {i} v l w lt s = laid_more l (wrote_long w) (λ r p. (stop_row (get_or (get_or t i []) 0 0) v, λ vs q. one_stop p R v vs lt s q, w))
+  module _ {i : ℕ} {room' : List ℕ} {next : ℕ} (l : Laid (Outgoing c m g t h sets out) (StopsUpto R) room at i room' next) where
+    pub stops_more : (v : StopVerdict) {room'' : List ℕ} {next'' : ℕ} → Wrote room' next (stop_row (get_or (get_or t i []) 0 0) v) room'' next''
+        → i < min (min (min c.stops 64) (length t)) (length h)
+        → StopSets R (get_or sets (get_or (get_or t i []) 1 0 % 64) []) (get_or h i []) (get_or out (get_or (get_or t i []) 1 0 % 64) []) v
+        → Laid (Outgoing c m g t h sets out) (StopsUpto R) room at (i + 1) room'' next''
+    stops_more v w k s = laid_more l (wrote_long w) (λ r p. (stop_row (get_or (get_or t i []) 0 0) v, λ vs q. one_stop R p v vs k s q, w))
 
-  pub stops_all : {i : ℕ} {room' : List ℕ} {next : ℕ} → Laid (StopsReady n t h sets out) (StopsUpto R n) room at i room' next → n ≤ i → {c : Counts} → n ≡ min (min (min c.stops 64) (length t)) (length h)
-      → (m g : List (List ℕ)) (r : Sheet) → Ready c m g t h sets r → Outward c m g sets out → (vs : List ℕ) × StopRows R r r.stops vs × Wrote room at vs room' next
-  unfolding StopsUpto
-  stops_all {i} l k {c} e m g r w o =
-      let x = l.text r (record { counts = c; moves = m; guards = g; is = e; ready = w; outward = o }) in
-      let z : n - i ≡ 0 = omega arith in
-      (x.0, rw z at x.1, x.2)
+    pub stops_all : min (min (min c.stops 64) (length t)) (length h) ≤ i → (r : Sheet) → Ready c m g t h sets r → Outward c m g sets out
+        → (vs : List ℕ) × StopRows R r r.stops vs × Wrote room at vs room' next
+    stops_all k r w o =
+        let p : Outgoing c m g t h sets out r = record { ready = w; outward = o } in
+        let x = l.text r p in
+        (x.0, every_stop R p k x.1, x.2)

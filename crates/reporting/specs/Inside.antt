@@ -3,6 +3,7 @@
 use Rattle.std.specs.Prelude.{Bool, List, ◌≡◌, ℕ, ◌<◌, min}
 use Rattle.products.specs.Sets.{bit, one_if}
 use Rattle.sheet.specs.declared.Counts.{Counts}
+use Rattle.desk.specs.declared.Desk.{Desk}
 use Rattle.verdicts.specs.Judging.{row_at}
 use Rattle.reporting.specs.Laying.{Outward}
 
@@ -15,3 +16,6 @@ pub record Told (c : Counts) (m g t sets out : List (List ℕ)) (leaves stopped 
   pub outward : Outward c m g sets out
   pub left : Marked leaves (λ q. row_at m 1 q (min c.moves 256))
   pub declared : Marked stopped (λ q. row_at t 1 q (min c.stops 64))
+
+abbrev pub ToldOn : Desk → (leaves stopped : ℕ) → Type 0
+ToldOn d leaves stopped = Told d.sheet.counts d.sheet.moves.now d.sheet.move_guards.now d.sheet.stops.now d.sets.now d.out.now leaves stopped

@@ -4,10 +4,13 @@
 // clean form at once, in pairs of rooms. Nothing is judged here: the walker says what should be written.
 #![tactic(auto)]
 
+ghost use Rattle.std.specs.Bool.{OnTrue};
+ghost use Rattle.std.specs.Prelude.{◌+◌, ◌≤◌, length};
+
 mod pairs;
 
-use calls::Answer;
-use console::{Input, Streams};
+use console::Streams;
+use refusals::Refusal;
 use tables::MOST_BYTES;
 
 // Each text has an area of this size for its rooms and their marks.
@@ -25,23 +28,10 @@ const MORE: usize = 8;
 // More bytes than any line has that is written here.
 const LINE_ROOM: usize = 64;
 
-// The text that is asked for.
-#[derive(Clone, Copy)]
-enum Asked {
-    Report,
-    ByNumber,
-    Clean,
-}
-
 fn main(rt: HostRuntime) {
-    let streams = Streams {
-        stdin: rt.stdin(),
-        stdout: rt.stdout(),
-        stderr: rt.stderr(),
-    };
+    let streams = Streams::new(&rt);
     let mut buf = [0u8; MOST_BYTES + 1];
-    let input = console::read_input(&streams, &mut buf);
-    let Input::Whole(n) = input else {
+    let Ok(n) = console::read_input(&streams, &mut buf) else {
         return;
     };
     let mut area = [0u8; AREA];
@@ -54,103 +44,85 @@ fn main(rt: HostRuntime) {
     );
 }
 
-// Every room in turn, as long as all can be written.
-fn show_all(streams: &Streams, text: &[u8], area: &mut [u8], clean_area: &mut [u8]) {
-    if !rooms(streams, text, area, Asked::Report) {
-        return;
-    }
-    if !rooms(streams, text, area, Asked::ByNumber) {
-        return;
-    }
-    if !rooms(streams, text, clean_area, Asked::Clean) {
-        return;
-    }
-    pairs::pairs(streams, text, area, clean_area);
+// Every room in turn, as long as all can be written; answers whether it was.
+fn show_all(streams: &Streams, text: &[u8], area: &mut [u8], clean_area: &mut [u8]) -> bool {
+    rooms(streams, text, area, calls::report)
+        && rooms(streams, text, area, calls::report_by_number)
+        && rooms(streams, text, clean_area, calls::clean)
+        && pairs::pairs(streams, text, area, clean_area)
 }
 
-// The text in rooms of each size in turn; answers whether all was written.
-fn rooms(streams: &Streams, text: &[u8], area: &mut [u8], asked: Asked) -> bool {
-    let count = sizes(text, area, asked);
-    let mut size = 0;
-    while size < count {
-        if !room(streams, text, area, size, asked) {
+// The text that the call lays, in rooms of each size in turn; answers whether all was written.
+fn rooms<C>(streams: &Streams, text: &[u8], area: &mut [u8], call: C) -> bool
+where
+    C: Fn(&[u8], &mut [u8]) -> Result<usize, Refusal>,
+    requires { C.IsAlwaysCallable call }
+{
+    for size in 0..sizes(call(text, area)) {
+        if !room(streams, text, area, size, &call) {
             return false;
         }
-        size += 1;
     }
     true
 }
 
 // How many sizes there are: from 0 to eight more than the length; only 0 where the sheet is refused.
-fn sizes(text: &[u8], area: &mut [u8], asked: Asked) -> usize {
-    let a = lay(text, area, asked);
-    match a {
-        Answer::Done(n) => counts::at_most(n, AREA) + MORE + 1,
-        Answer::Refused(_) => 1,
-    }
-}
-
-fn lay(text: &[u8], room: &mut [u8], asked: Asked) -> Answer {
-    match asked {
-        Asked::Report => calls::report(text, room),
-        Asked::ByNumber => calls::report_by_number(text, room),
-        Asked::Clean => calls::clean(text, room),
-    }
+fn sizes(answer: Result<usize, Refusal>) -> usize {
+    answer.map_or(1, |n| n.min(AREA) + MORE + 1)
 }
 
 // A room of `size` bytes with 32 marked bytes on each side; none where the area is too small for it.
 // Answers whether all was written.
-fn room(streams: &Streams, text: &[u8], area: &mut [u8], size: usize, asked: Asked) -> bool {
-    if area.len() < BOTH_SIDES {
+fn room<C>(streams: &Streams, text: &[u8], area: &mut [u8], size: usize, call: &C) -> bool
+where
+    C: Fn(&[u8], &mut [u8]) -> Result<usize, Refusal>,
+    requires { C.IsAlwaysCallable call.now }
+{
+    if !has_place(area, size) {
         return true;
     }
-    if area.len() - BOTH_SIDES < size {
-        return true;
-    }
-    mark(area);
-    let end = AROUND + size;
-    let a = lay(text, &mut area[AROUND..end], asked);
-    if !show_answer(streams, size, a) {
-        return false;
-    }
-    show_room(streams, &area[0..end + AROUND])
+    let marked = &mut area[..size + BOTH_SIDES];
+    marked.fill(MARK);
+    let answer = call(text, &mut marked[AROUND..AROUND + size]).map(|n| [n]);
+    show_answer(streams, [size], answer) && show_room(streams, marked)
 }
 
-// Marks every byte.
-fn mark(area: &mut [u8]) {
-    let mut i = 0;
-    while i < area.len() {
-        area[i] = MARK;
-        i += 1;
-    }
+// Whether the area has place for a room of `size` bytes and its marks.
+fn has_place(area: &[u8], size: usize) -> bool
+    ensures { OnTrue result (size + 64 ≤ length area.now) }
+{
+    BOTH_SIDES <= area.len() && size <= area.len() - BOTH_SIDES
 }
 
-// A line with the room's size and the answer.
-fn show_answer(streams: &Streams, size: usize, a: Answer) -> bool {
+// A line with the sizes of the rooms and the answer.
+fn show_answer<const N: usize>(
+    streams: &Streams,
+    sizes: [usize; N],
+    answer: Result<[usize; N], Refusal>,
+) -> bool {
     let mut line = [0u8; LINE_ROOM];
-    let at = text::put_number(&mut line, 0, size);
-    let next = text::put(&mut line, at, b'\t');
-    let end = put_answer(&mut line, next, a);
+    let mut at = 0;
+    for size in sizes {
+        at = text::put_number(&mut line, at, size);
+        at = text::put(&mut line, at, b'\t');
+    }
+    let end = match answer {
+        Ok(lengths) => put_done(&mut line, at, &lengths),
+        Err(q) => refusals::put_refusal(&mut line, at, q),
+    };
     console::print(streams, console::first(&line, end))
 }
 
-// Lays `done` and the length, or the refusal, with byte 10 at the end; answers the next place.
-fn put_answer(line: &mut [u8], at: usize, a: Answer) -> usize {
-    match a {
-        Answer::Done(n) => put_done(line, at, n),
-        Answer::Refused(q) => refusals::put_refusal(line, at, q),
+// Lays `done` and the lengths, with byte 10 at the end; answers the next place.
+fn put_done(line: &mut [u8], at: usize, lengths: &[usize]) -> usize {
+    let mut next = text::put_bytes(line, at, b"done");
+    for &n in lengths {
+        next = text::put(line, next, b'\t');
+        next = text::put_number(line, next, n);
     }
-}
-
-fn put_done(line: &mut [u8], at: usize, n: usize) -> usize {
-    let a = text::put_bytes(line, at, b"done\t");
-    let b = text::put_number(line, a, n);
-    text::put(line, b, b'\n')
+    text::put(line, next, b'\n')
 }
 
 fn show_room(streams: &Streams, room: &[u8]) -> bool {
-    if !console::print(streams, room) {
-        return false;
-    }
-    console::print(streams, b"\n")
+    console::print(streams, room) && console::print(streams, b"\n")
 }

@@ -1,15 +1,14 @@
 // Both texts of the sheet at once, in pairs of rooms: each room in turn of no bytes, of one byte less than
 // its text, of as many and of one more. For each pair a line with both sizes and the answer is written,
 // and then each room with the marks around it.
-use super::{AREA, AROUND, Asked, BOTH_SIDES, LINE_ROOM, lay, mark, show_room};
-use calls::{Answer, Answers};
+ghost use Rattle.std.specs.Prelude.{◌≤◌};
+
+use super::{AREA, AROUND, BOTH_SIDES, MARK, has_place, show_answer, show_room};
 use console::Streams;
+use refusals::Refusal;
 
 // The larger of the two sizes where there is no text.
 const WITHOUT_TEXT: usize = 40;
-
-// No room of this size has a place in an area with its marks: so it stands for none.
-const NONE: usize = AREA;
 
 // Answers whether all was written.
 pub(crate) fn pairs(
@@ -18,16 +17,12 @@ pub(crate) fn pairs(
     area: &mut [u8],
     clean_area: &mut [u8],
 ) -> bool {
-    let a = lay(text, area, Asked::Report);
-    let b = lay(text, clean_area, Asked::Clean);
-    let sizes = sizes_of(a);
-    let clean_sizes = sizes_of(b);
-    let mut i = 0;
-    while i < 4 {
-        if !row(streams, text, area, clean_area, sizes[i], &clean_sizes) {
+    let sizes = sizes_of(calls::report(text, area));
+    let clean_sizes = sizes_of(calls::clean(text, clean_area));
+    for &size in sizes.iter().flatten() {
+        if !row(streams, text, area, clean_area, size, &clean_sizes) {
             return false;
         }
-        i += 1;
     }
     true
 }
@@ -39,36 +34,33 @@ fn row(
     area: &mut [u8],
     clean_area: &mut [u8],
     size: usize,
-    clean_sizes: &[usize; 4],
+    clean_sizes: &[Option<usize>; 4],
 ) -> bool {
-    let mut i = 0;
-    while i < 4 {
-        if !pair(streams, text, area, clean_area, size, clean_sizes[i]) {
+    for &clean_size in clean_sizes.iter().flatten() {
+        if !pair(streams, text, area, clean_area, size, clean_size) {
             return false;
         }
-        i += 1;
     }
     true
 }
 
 // The sizes of a text's rooms, by the answer of the call that lays this text alone.
-fn sizes_of(a: Answer) -> [usize; 4] {
-    match a {
-        Answer::Done(n) => sizes_around(n),
-        Answer::Refused(_) => [0, WITHOUT_TEXT, NONE, NONE],
+fn sizes_of(answer: Result<usize, Refusal>) -> [Option<usize>; 4] {
+    match answer {
+        Ok(n) => sizes_around(n.min(AREA)),
+        Err(_) => [Some(0), Some(WITHOUT_TEXT), None, None],
     }
 }
 
-// For a length n: 0, n - 1, n and n + 1, each once. No length is more than the area's.
-fn sizes_around(length: usize) -> [usize; 4] {
-    let n = counts::at_most(length, AREA);
-    if n == 0 {
-        return [0, NONE, NONE, 1];
+// For a length n: 0, n - 1, n and n + 1, each once.
+fn sizes_around(n: usize) -> [Option<usize>; 4]
+    requires { n ≤ 8192 }
+{
+    match n {
+        0 => [Some(0), None, None, Some(1)],
+        1 => [Some(0), None, Some(1), Some(2)],
+        _ => [Some(0), Some(n - 1), Some(n), Some(n + 1)],
     }
-    if n == 1 {
-        return [0, NONE, 1, 2];
-    }
-    [0, n - 1, n, n + 1]
 }
 
 // A pair of rooms with 32 marked bytes on each side of each; none where an area is too small for its room.
@@ -81,59 +73,19 @@ fn pair(
     size: usize,
     clean_size: usize,
 ) -> bool {
-    if area.len() < BOTH_SIDES {
+    if !has_place(area, size) || !has_place(clean_area, clean_size) {
         return true;
     }
-    if area.len() - BOTH_SIDES < size {
-        return true;
-    }
-    if clean_area.len() < BOTH_SIDES {
-        return true;
-    }
-    if clean_area.len() - BOTH_SIDES < clean_size {
-        return true;
-    }
-    mark(area);
-    mark(clean_area);
-    let end = AROUND + size;
-    let clean_end = AROUND + clean_size;
-    let a = calls::report_and_clean(
+    let marked = &mut area[..size + BOTH_SIDES];
+    let clean_marked = &mut clean_area[..clean_size + BOTH_SIDES];
+    marked.fill(MARK);
+    clean_marked.fill(MARK);
+    let answer = calls::report_and_clean(
         text,
-        &mut area[AROUND..end],
-        &mut clean_area[AROUND..clean_end],
+        &mut marked[AROUND..AROUND + size],
+        &mut clean_marked[AROUND..AROUND + clean_size],
     );
-    if !show_answers(streams, size, clean_size, a) {
-        return false;
-    }
-    if !show_room(streams, &area[0..end + AROUND]) {
-        return false;
-    }
-    show_room(streams, &clean_area[0..clean_end + AROUND])
-}
-
-// A line with both sizes and the answer.
-fn show_answers(streams: &Streams, size: usize, clean_size: usize, r: Answers) -> bool {
-    let mut line = [0u8; LINE_ROOM];
-    let a = text::put_number(&mut line, 0, size);
-    let b = text::put(&mut line, a, b'\t');
-    let c = text::put_number(&mut line, b, clean_size);
-    let d = text::put(&mut line, c, b'\t');
-    let e = put_answers(&mut line, d, r);
-    console::print(streams, console::first(&line, e))
-}
-
-// Lays `done` and both lengths, or the refusal, with byte 10 at the end; answers the next place.
-fn put_answers(line: &mut [u8], at: usize, r: Answers) -> usize {
-    match r {
-        Answers::Done(n, m) => put_done(line, at, n, m),
-        Answers::Refused(q) => refusals::put_refusal(line, at, q),
-    }
-}
-
-fn put_done(line: &mut [u8], at: usize, n: usize, m: usize) -> usize {
-    let a = text::put_bytes(line, at, b"done\t");
-    let b = text::put_number(line, a, n);
-    let c = text::put(line, b, b'\t');
-    let d = text::put_number(line, c, m);
-    text::put(line, d, b'\n')
+    show_answer(streams, [size, clean_size], answer.map(|(n, m)| [n, m]))
+        && show_room(streams, marked)
+        && show_room(streams, clean_marked)
 }

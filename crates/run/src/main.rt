@@ -6,12 +6,11 @@
 ghost use Rattle.std.specs.Prelude.{◌≡◌, ◌≤◌, length, take};
 ghost use Rattle.running.specs.Shown.{called_text};
 ghost use Rattle.console.specs.Reading.{Held};
-ghost use Rattle.console.specs.declared.Input.TheVariants.{Broken};
 
-use console::{Input, Line, Streams};
-use fields::Number;
-use running::{Answer, Called};
+use console::{Broken, Streams};
+use running::Called;
 use std::fs::Files;
+use std::io::Read;
 use std::{fs, str};
 use tables::MOST_BYTES;
 
@@ -25,15 +24,10 @@ const NAME_ROOM: usize = 25;
 const LINE_ROOM: usize = 198;
 
 fn main(rt: HostRuntime) {
-    let streams = Streams {
-        stdin: rt.stdin(),
-        stdout: rt.stdout(),
-        stderr: rt.stderr(),
-    };
+    let streams = Streams::new(&rt);
     let mut word = [0u8; MOST_WORD];
     let n = console::word(&rt, 1, &mut word);
-    let number = console::number(console::first(&word, n));
-    let Number::Of(product) = number else {
+    let Some(product) = console::number(console::first(&word, n)) else {
         tell_usage(&streams);
         return;
     };
@@ -55,68 +49,62 @@ fn tell_usage(streams: &Streams) {
 // Runs a box with the sheet in the file named.
 fn run_from<F: Files>(files: &F, streams: &Streams, path: &[u8], product: usize) {
     let mut buf = [0u8; MOST_BYTES + 1];
-    let input = read_file(files, streams, path, &mut buf);
-    let Input::Whole(n) = input else {
+    let Ok(n) = read_file(files, streams, path, &mut buf) else {
         return;
     };
     run(streams, console::first(&buf, n), product);
 }
 
-// Reads the sheet in the file named. Only a name in UTF-8 can be handed to the system, so with any other the
-// sheet cannot be opened.
-fn read_file<F: Files>(files: &F, streams: &Streams, path: &[u8], buf: &mut [u8]) -> Input
+// Reads the sheet in the file named.
+fn read_file<F: Files>(
+    files: &F,
+    streams: &Streams,
+    path: &[u8],
+    buf: &mut [u8],
+) -> Result<usize, Broken>
     ensures { Held buf.old buf.new result }
 {
-    let Ok(name) = str::from_utf8(path) else {
-        return tell_unopened(streams);
-    };
-    let Ok(mut file) = fs::open(files, name) else {
-        return tell_unopened(streams);
+    let Some(mut file) = open(files, path) else {
+        console::tell(streams, b"the sheet could not be opened\n");
+        return Err(Broken);
     };
     console::read_from(streams, &mut file, buf)
 }
 
-fn tell_unopened(streams: &Streams) -> Input
-    ensures { result ≡ Broken }
-{
-    console::tell(streams, b"the sheet could not be opened\n");
-    Input::Broken
+// Only a name in UTF-8 can be handed to the system, so with any other the sheet cannot be opened.
+fn open<F: Files>(files: &F, path: &[u8]) -> Option<F::File> {
+    let name = str::from_utf8(path).ok()?;
+    fs::open(files, name).ok()
 }
 
 // Sets the box up and takes it from name to name, as long as a name comes and all can be written.
 fn run(streams: &Streams, text: &[u8], product: usize) {
     let first = running::set_up(text, product);
-    let mut going = show(streams, first) && is_done(first);
+    if !show(streams, first) || first.answer.is_err() {
+        return;
+    }
     let mut b = first.after;
     let mut stdin = streams.stdin;
-    let mut turns = u64::MAX;
-    while turns > 0 && going {
+    for _ in 0..u64::MAX {
         let mut name = [0u8; NAME_ROOM];
-        let line = console::read_line(&mut stdin, &mut name);
-        let Line::Of(n) = line else {
-            tell_broken(streams, line);
+        let Some(n) = next_name(streams, &mut stdin, &mut name) else {
             return;
         };
         let x = running::act_held(text, b, console::first(&name, n));
-        going = show(streams, x);
-        let after = x.after;
-        b = after;
-        turns -= 1;
+        if !show(streams, x) {
+            return;
+        }
+        b = x.after;
     }
 }
 
-fn is_done(x: Called) -> bool {
-    let answer = x.answer;
-    if let Answer::Done = answer {
-        return true;
-    }
-    false
-}
-
-fn tell_broken(streams: &Streams, line: Line) {
-    if let Line::Failed = line {
+// Reads the next name, and answers how many bytes it has; none where no name comes any more.
+fn next_name<R: Read>(streams: &Streams, reader: &mut R, name: &mut [u8]) -> Option<usize> {
+    let line = console::read_line(reader, name);
+    if line.is_err() {
         console::tell(streams, b"the names could not be read to their end\n");
     }
+    line.ok()?
 }
 
 // Writes the line that tells of a call; answers whether all was written.

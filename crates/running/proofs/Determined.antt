@@ -1,4 +1,5 @@
 -- The box's promises determine answer and box: any two that meet one are equal. Assumes nothing.
+use Rattle.std.proofs.Common.{Result, Ok, Err}
 use mathlib.Core.Bool.{true, false}
 use mathlib.Core.List.{List}
 use mathlib.Core.Logic.{◌⊎◌, inl, inr}
@@ -13,8 +14,6 @@ use Rattle.sheet.specs.Sheet.{Sheet, is_valid}
 use Rattle.sheet.specs.Reading.{kept, read_sheet}
 use Rattle.sheet.proofs.Accepted.{kept_refused}
 use Rattle.running.specs.declared.RunningBox.{RunningBox}
-use Rattle.running.specs.declared.Answer.{Answer}
-use Rattle.running.specs.declared.Answer.TheVariants.{Done, Refused}
 use Rattle.running.specs.Ways.{Stands}
 use Rattle.running.specs.Promise.{NotValid, NoMove, Refuses, Begun, SetsUp, Went, Acts}
 
@@ -61,14 +60,14 @@ module _ (s : List ℕ) where
     no_begin : {r : Sheet} {b : RunningBox} → Begun r p b → (q : Refusal) → NotValid r p q → ⊥
     no_begin {r} h q n = not_both r refl h.valid n.invalid
 
-    pub set_up_once : (a c : Answer) (b d : RunningBox) → SetsUp s p a b → SetsUp s p c d → (a ≡ c) × (b ≡ d)
-    set_up_once Done Done b d (r, e, g) (t, f, h) =
+    pub set_up_once : (a c : Result (Unit {0}) Refusal) (b d : RunningBox) → SetsUp s p a b → SetsUp s p c d → (a ≡ c) × (b ≡ d)
+    set_up_once (Ok x) (Ok y) b d (r, e, g) (t, f, h) =
         let k : Begun r p d = rw (same_sheet f e) at h in
         (refl, same_box (g.product ∙ sym k.product) g.place k.place)
-    set_up_once Done (Refused q) b d (r, e, g) (z, h) = absurd (not_refused (λ r. NotValid r p) e (no_begin g) h)
-    set_up_once (Refused q) Done b d (z, h) (r, e, g) = absurd (not_refused (λ r. NotValid r p) e (no_begin g) h)
-    set_up_once (Refused q) (Refused t) b d (y, g) (z, h) =
-        (ap Refused (refused_once (λ r. NotValid r p) (λ r p q x y. x.twelve ∙ sym y.twelve) g h), y ∙ sym z)
+    set_up_once (Ok x) (Err q) b d (r, e, g) (z, h) = absurd (not_refused (λ r. NotValid r p) e (no_begin g) h)
+    set_up_once (Err q) (Ok x) b d (z, h) (r, e, g) = absurd (not_refused (λ r. NotValid r p) e (no_begin g) h)
+    set_up_once (Err q) (Err t) b d (y, g) (z, h) =
+        (ap Err (refused_once (λ r. NotValid r p) (λ r p q x y. x.twelve ∙ sym y.twelve) g h), y ∙ sym z)
 
   -- ---- an action
 
@@ -86,10 +85,10 @@ module _ (s : List ℕ) where
     one_no r p q (inr x) (inl y) = absurd (not_both r refl x.valid y.invalid)
     one_no r p q (inr x) (inr y) = x.nineteen ∙ sym y.nineteen
 
-    pub act_once : (a c : Answer) (d f : RunningBox) → Acts s b name a d → Acts s b name c f → (a ≡ c) × (d ≡ f)
-    act_once Done Done d f (r, e, g) (t, i, h) =
+    pub act_once : (a c : Result (Unit {0}) Refusal) (d f : RunningBox) → Acts s b name a d → Acts s b name c f → (a ≡ c) × (d ≡ f)
+    act_once (Ok x) (Ok y) d f (r, e, g) (t, i, h) =
         let k : Went r b name f = rw (same_sheet i e) at h in
         (refl, same_box (g.product ∙ sym k.product) g.place k.place)
-    act_once Done (Refused q) d f (r, e, g) (z, h) = absurd (not_refused No e (no_went g) h)
-    act_once (Refused q) Done d f (z, h) (r, e, g) = absurd (not_refused No e (no_went g) h)
-    act_once (Refused q) (Refused t) d f (y, g) (z, h) = (ap Refused (refused_once No one_no g h), y ∙ sym z)
+    act_once (Ok x) (Err q) d f (r, e, g) (z, h) = absurd (not_refused No e (no_went g) h)
+    act_once (Err q) (Ok x) d f (z, h) (r, e, g) = absurd (not_refused No e (no_went g) h)
+    act_once (Err q) (Err t) d f (y, g) (z, h) = (ap Err (refused_once No one_no g h), y ∙ sym z)

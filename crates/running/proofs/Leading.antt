@@ -1,5 +1,6 @@
 -- "As long as the same sheet is lent, the place is exactly the ends of the ways that carry the names accepted so far." By the calls, one after
 -- another. Assumes nothing.
+use Rattle.std.proofs.Common.{Ok, Err}
 use mathlib.Core.Bool.{true}
 use mathlib.Core.List.{List, [], ◌∷◌, Memᴰ}
 use mathlib.Core.Logic.{inl, inr}
@@ -7,6 +8,7 @@ use mathlib.Core.Path.{◌≡◌, refl, sym, ◌∙◌}
 use Prim.Native.Nat.{ℕ}
 use native.Mathlib.Omega.{arith}
 use Rattle.products.proofs.Bits.{zero_bit}
+use Rattle.refusals.specs.declared.Reason.TheVariants as because
 use Rattle.refusals.specs.declared.Refusal.{Refusal}
 use Rattle.refusals.specs.Refusal.{refusal}
 use Rattle.guards.specs.Guard.{holds}
@@ -14,7 +16,6 @@ use Rattle.sheet.specs.Sheet.{Move, Sheet, is_valid}
 use Rattle.sheet.specs.Reading.{kept, read_sheet}
 use Rattle.sheet.proofs.Accepted.{kept_refused}
 use Rattle.running.specs.declared.RunningBox.{RunningBox}
-use Rattle.running.specs.declared.Answer.TheVariants.{Done, Refused}
 use Rattle.running.specs.Ways.{Stands, Ends, Carries, none, more}
 use Rattle.running.specs.Promise.{nowhere, Went, Acts}
 use Rattle.running.specs.Runs.{Run, set_up, went, stayed}
@@ -76,14 +77,14 @@ led (stayed run u) = rw u.0 (led run)
 
 -- so a name is accepted exactly if a way carries it after those accepted so far
 module _ (s : List ℕ) {r : Sheet} (e : read_sheet s ≡ kept r) {p : ℕ} {names : List (List ℕ)} {b : RunningBox} (x : Led r p names b) {name : List ℕ} {d : RunningBox} where
-  pub done_way : Acts s b name Done d → (q : ℕ) × Carries r p (name ∷ names) q
+  pub done_way : Acts s b name (Ok tt) d → (q : ℕ) × Carries r p (name ∷ names) q
   done_way (t, f, w) = let y : Went r b name d = rw (same_sheet s f e) at w in (y.some.0, one_more x.product x.place y.some.1)
 
-  pub refused_no_way : {q : Refusal} → Acts s b name (Refused q) d → (q ≡ refusal 19 0 0) × ((to : ℕ) → Carries r p (name ∷ names) to → ⊥)
+  pub refused_no_way : {q : Refusal} → Acts s b name (Err q) d → (q ≡ refusal because.NoMove 0 0) × ((to : ℕ) → Carries r p (name ∷ names) to → ⊥)
   refused_no_way (k, inl f) = absurd (kept_refused s e f)
   refused_no_way (k, inr (t, f, inl n)) = absurd (not_both r (sym x.product) x.valid (rw (same_sheet s f e) at n.invalid))
   refused_no_way (k, inr (t, f, inr n)) = (n.nineteen, λ to c. n.nothing to (rw (same_sheet s f e) (last_one x.product x.place c)))
 
 -- from the empty place that a refused set-up gives no name leads anywhere
-pub nowhere_led : (s : List ℕ) {name : List ℕ} {d : RunningBox} → Acts s nowhere name Done d → ⊥
+pub nowhere_led : (s : List ℕ) {name : List ℕ} {d : RunningBox} → Acts s nowhere name (Ok tt) d → ⊥
 nowhere_led s (r, e, w) = omega (arith, zero_bit w.some.1.move.from, w.some.1.from.is)

@@ -1,4 +1,5 @@
 -- What the box's functions found, as the definitions say it: one law for each answer. Assumes nothing.
+use Rattle.std.proofs.Common.{Ok, Err}
 use mathlib.Core.Bool.{Bool, true, false, not}
 use mathlib.Core.List.{List, [], Memᴰ}
 use mathlib.Core.Logic.{⊎_elim, inl, inr}
@@ -12,10 +13,10 @@ use lib.ListN.{get_or}
 use Rattle.products.specs.Sets.{bit, one_if, In}
 use Rattle.products.proofs.Bits.{zero_bit, past_bit, some_bit}
 use Rattle.products.proofs.Laws.{one_true}
+use Rattle.refusals.specs.declared.Reason.TheVariants as because
 use Rattle.refusals.specs.Refusal.{refusal}
 use Rattle.guards.specs.Guard.{holds, Means}
 use Rattle.sheet.specs.declared.Counts.{Counts}
-use Rattle.sheet.specs.declared.SheetRead.TheVariants as whole
 use Rattle.sheet.specs.Sheet.{Move, Sheet, is_valid}
 use Rattle.sheet.specs.Accepted.{Accepted}
 use Rattle.sheet.specs.Tables.{Tables, tables, Rows, MoveRow, StandsFor, ReadInto}
@@ -23,7 +24,6 @@ use Rattle.sheet.proofs.Rows.{rows_of, rows_both, rows_in, piece_lies}
 use Rattle.sheet.proofs.Accepted.{accepted, valid_small, good_move}
 use Rattle.running.specs.declared.RunningBox.{RunningBox}
 use Rattle.running.specs.Ways.{Ends}
-use Rattle.running.specs.declared.Answer.TheVariants.{Done, Refused}
 use Rattle.running.specs.Promise.{nowhere, NotValid, NoMove, Begun, SetsUp, Went, Acts}
 use Rattle.running.specs.Inside.{Looks, Added, Gathered, leads_at}
 use Rattle.running.proofs.Gathering.{Tells, added_state}
@@ -37,7 +37,7 @@ module _ {s : List ℕ} {T : Tables} {c : Counts} {r : Sheet} (good : Accepted r
 
   module _ {p : ℕ} {x : Bool} (tells : Tells x (In T.valid p)) where
     -- 12
-    not_valid : not x ≡ true → NotValid r p (refusal 12 0 0)
+    not_valid : not x ≡ true → NotValid r p (refusal because.InvalidProduct 0 0)
     not_valid e = record { twelve = refl; invalid = at (is_valid r p) refl }
       where
         at : (b : Bool) → is_valid r p ≡ b → is_valid r p ≡ false
@@ -110,7 +110,7 @@ module _ {s : List ℕ} {T : Tables} {c : Counts} {r : Sheet} (good : Accepted r
           g.every z.0 q (omega (arith, z.1)) (omega (arith, (good_move good.moves e.listed).to, e.to)) (from_end z.0 e z.2)
 
       -- 19
-      no_move : w ≡ 0 → NoMove r b name (refusal 19 0 0)
+      no_move : w ≡ 0 → NoMove r b name (refusal because.NoMove 0 0)
       no_move z = record { nineteen = refl; valid = v; nothing = λ q i. let y : bit 0 q ≡ 1 = rw z at (in_place q i) in omega (arith, zero_bit q) }
 
       -- gone on
@@ -126,7 +126,7 @@ module _ {s : List ℕ} {T : Tables} {c : Counts} {r : Sheet} (good : Accepted r
 
 -- ---- what the calls promise, where the reader kept the sheet
 
-module _ (s : List ℕ) {valid : List ℕ} {moves guards : List (List ℕ)} {c : Counts} (kept : Looks s valid moves guards (whole.Kept c)) where
+module _ (s : List ℕ) {valid : List ℕ} {moves guards : List (List ℕ)} {c : Counts} (kept : Looks s valid moves guards (Ok c)) where
   abbrev read : ReadInto s (tables kept.0 valid moves guards kept.1 kept.2) c
   read = kept.3.0
 
@@ -134,20 +134,20 @@ module _ (s : List ℕ) {valid : List ℕ} {moves guards : List (List ℕ)} {c :
   good = accepted s read.1
 
   module _ {p : ℕ} {x : Bool} (tells : Tells x (In valid p)) where
-    pub set_up_refused : not x ≡ true → SetsUp s p (Refused (refusal 12 0 0)) nowhere
+    pub set_up_refused : not x ≡ true → SetsUp s p (Err (refusal because.InvalidProduct 0 0)) nowhere
     set_up_refused e = (refl, inr (read.0, read.1, not_valid good read.2 tells e))
 
     pub set_up_done : not x ≡ false → {w : ℕ} → ((q : ℕ) → q < 64 → bit w q ≡ max (bit 0 q) (one_if (eqb c.start q))) → w < 2 ^ 64
-        → SetsUp s p Done (record { product = p; place = w })
+        → SetsUp s p (Ok tt) (record { product = p; place = w })
     set_up_done e is l = (read.0, read.1, begun good read.2 (is_valid_lem good read.2 tells e) is l)
 
   module _ (b : RunningBox) (name : List ℕ) {x : Bool} (tells : Tells x (In valid b.product)) where
-    pub act_refused : not x ≡ true → Acts s b name (Refused (refusal 12 0 0)) b
+    pub act_refused : not x ≡ true → Acts s b name (Err (refusal because.InvalidProduct 0 0)) b
     act_refused e = (refl, inr (read.0, read.1, inl (not_valid good read.2 tells e)))
 
     module _ (e : not x ≡ false) {w : ℕ} (g : Gathered (leads_at s moves guards b name) (min c.moves 256) w) where
-      pub act_stayed : w ≡ 0 → Acts s b name (Refused (refusal 19 0 0)) b
+      pub act_stayed : w ≡ 0 → Acts s b name (Err (refusal because.NoMove 0 0)) b
       act_stayed z = (refl, inr (read.0, read.1, inr (no_move good read.2 (is_valid_lem good read.2 tells e) g z)))
 
-      pub act_done : (w ≡ 0 → ⊥) → w < 2 ^ 64 → Acts s b name Done (record { product = b.product; place = w })
+      pub act_done : (w ≡ 0 → ⊥) → w < 2 ^ 64 → Acts s b name (Ok tt) (record { product = b.product; place = w })
       act_done n l = (read.0, read.1, went good read.2 (is_valid_lem good read.2 tells e) g n l)

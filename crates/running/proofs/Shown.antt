@@ -1,4 +1,5 @@
 -- The line that tells of a call: laid state by state, and how long it can be. Assumes nothing.
+use Rattle.std.proofs.Common.{Ok, Err}
 use mathlib.Core.Bool.{Bool, true, false, cond, not}
 use mathlib.Core.List.{List, [], ◌∷◌, ◌++◌}
 use mathlib.Core.Path.{◌≡◌}
@@ -15,7 +16,6 @@ use Rattle.text.proofs.Laws.{wrote_then, wrote_text, wrote_end, decimal_places}
 use Rattle.refusals.specs.declared.Refusal.{Refusal}
 use Rattle.refusals.specs.Refusal.{refusal_text}
 use Rattle.refusals.proofs.Short.{refusal_short}
-use Rattle.running.specs.declared.Answer.TheVariants.{Done, Refused}
 use Rattle.running.specs.declared.Called.{Called}
 use Rattle.running.specs.Shown.{state_text, place_text, Told}
 
@@ -62,11 +62,11 @@ place_short : (w : ℕ) → length (place_text w) ≤ 198
 unfolding place_text
 place_short w = simp length-append (omega (arith, states_short w 64 (omega arith)))
 
-pub place_told : {l l' : List ℕ} {n : ℕ} (x : Called) → x.answer ≡ Done → Wrote l 0 (place_text x.after.place) l' n → Told l l' n x
+pub place_told : {l l' : List ℕ} {n : ℕ} (x : Called) → x.answer ≡ (Ok tt) → Wrote l 0 (place_text x.after.place) l' n → Told l l' n x
 place_told x e w = record { laid = rw e w; whole = rw e (whole_in (place_short x.after.place) w) }
 
-pub refusal_told : {l l' : List ℕ} {n : ℕ} (x : Called) (q : Refusal) → x.answer ≡ Refused q → Wrote l 0 (refusal_text q) l' n → q.number < 2 ^ 8 → q.line < 2 ^ 64 → q.place < 2 ^ 64 → Told l l' n x
-refusal_told x q e w h g f = record { laid = rw e w; whole = rw e (whole_in (omega (arith, refusal_short q h g f)) w) }
+pub refusal_told : {l l' : List ℕ} {n : ℕ} (x : Called) (q : Refusal) → x.answer ≡ Err q → Wrote l 0 (refusal_text q) l' n → q.line < 2 ^ 64 → q.place < 2 ^ 64 → Told l l' n x
+refusal_told x q e w g f = record { laid = rw e w; whole = rw e (whole_in (omega (arith, refusal_short q g f)) w) }
 
 -- what `put_called` promises determines room and length
 pub told_determined : {room x y : List ℕ} {m n : ℕ} {c : Called} → Told room x m c → Told room y n c → (x ≡ y) × (m ≡ n)

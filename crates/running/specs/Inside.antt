@@ -1,14 +1,25 @@
 -- What the functions inside the box promise each other. Nobody has to believe this page: what the calls promise does not speak of it. Assumes
 -- nothing: these are definitions.
-use Rattle.std.specs.Prelude.{List, [], ◌⊎◌, ◌≡◌, ℕ, ◌<◌, get_or}
+use Rattle.refusals.specs.declared.Refusal.{Refusal}
+use Rattle.std.specs.Prelude.{List, [], ◌⊎◌, ◌≡◌, ℕ, ◌<◌, get_or, Result, Ok, Err}
 use Rattle.products.specs.Sets.{bit, In}
 use Rattle.fields.specs.Bytes.{piece_of}
-use Rattle.sheet.specs.declared.SheetRead.{SheetRead}
 use Rattle.sheet.specs.Tables.{tables, ReadsSheet}
+use Rattle.sheet.specs.declared.Counts.{Counts}
 use Rattle.running.specs.declared.RunningBox.{RunningBox}
+use Rattle.running.specs.Promise.{nowhere, SetsUp, Acts}
+
+-- the box that a set-up gives, and the one that an action gives; where it is refused, what the call leaves
+abbrev pub Starts : List ℕ → ℕ → Result RunningBox Refusal → Type 0
+Starts s p (Ok b) = SetsUp s p (Ok tt) b
+Starts s p (Err q) = SetsUp s p (Err q) nowhere
+
+abbrev pub Steps : List ℕ → RunningBox → List ℕ → Result RunningBox Refusal → Type 0
+Steps s b name (Ok after) = Acts s b name (Ok tt) after
+Steps s b name (Err q) = Acts s b name (Err q) b
 
 -- what the reader promises, of the tables that a box needs and of some others
-abbrev pub Looks : List ℕ → List ℕ → List (List ℕ) → List (List ℕ) → SheetRead → Type 0
+abbrev pub Looks : List ℕ → List ℕ → List (List ℕ) → List (List ℕ) → Result Counts Refusal → Type 0
 Looks s valid moves guards r =
     (names : List (List ℕ)) × (stops : List (List ℕ)) × (stop_guards : List (List ℕ)) × ReadsSheet 256 256 64 64 s (tables names valid moves guards stops stop_guards) r
 

@@ -1,17 +1,16 @@
 -- What the box's calls promise, for every sheet, product, box and name. Assumes nothing: these are definitions.
-use Rattle.std.specs.Prelude.{true, false, List, ◌⊎◌, ◌≡◌, ℕ}
+use Rattle.std.specs.Prelude.{true, false, List, ◌⊎◌, ◌≡◌, ℕ, Result, Ok, Err}
+use Rattle.refusals.specs.declared.Reason.TheVariants as because
 use Rattle.refusals.specs.declared.Refusal.{Refusal}
 use Rattle.refusals.specs.Refusal.{refusal}
 use Rattle.sheet.specs.Sheet.{Sheet, is_valid}
 use Rattle.sheet.specs.Reading.{kept, refused, read_sheet}
 use Rattle.running.specs.declared.RunningBox.{RunningBox}
-use Rattle.running.specs.declared.Answer.{Answer}
-use Rattle.running.specs.declared.Answer.TheVariants.{Done, Refused}
 use Rattle.running.specs.declared.Called.{Called}
 use Rattle.running.specs.Ways.{Stands, Ends}
 
 -- an answer, with the box after it
-abbrev pub called : Answer → RunningBox → Called
+abbrev pub called : Result (Unit {0}) Refusal → RunningBox → Called
 called a b = record { answer = a; after = b }
 
 -- "a refused set-up gives product 0 and an empty place"
@@ -20,12 +19,12 @@ nowhere = record { product = 0; place = 0 }
 
 -- "12, the product isn't valid, line 0"
 pub record NotValid (r : Sheet) (p : ℕ) (q : Refusal) : Type 0 where
-  pub twelve : q ≡ refusal 12 0 0
+  pub twelve : q ≡ refusal because.InvalidProduct 0 0
   pub invalid : is_valid r p ≡ false
 
 -- "then 19, line 0, no state of the place makes a move of that name in this product, bad names included"
 pub record NoMove (r : Sheet) (b : RunningBox) (name : List ℕ) (q : Refusal) : Type 0 where
-  pub nineteen : q ≡ refusal 19 0 0
+  pub nineteen : q ≡ refusal because.NoMove 0 0
   pub valid : is_valid r b.product ≡ true
   pub nothing : (to : ℕ) → Ends r b name to → ⊥
 
@@ -42,9 +41,9 @@ pub record Begun (r : Sheet) (p : ℕ) (b : RunningBox) : Type 0 where
   pub place : Stands b (λ q. q ≡ r.start)
 
 -- of the answer, and of the box that comes of it
-abbrev pub SetsUp : List ℕ → ℕ → Answer → RunningBox → Type 0
-SetsUp s p Done b = (r : Sheet) × (read_sheet s ≡ kept r) × Begun r p b
-SetsUp s p (Refused q) b = (b ≡ nowhere) × Refuses (λ r. NotValid r p) s q
+abbrev pub SetsUp : List ℕ → ℕ → Result (Unit {0}) Refusal → RunningBox → Type 0
+SetsUp s p (Ok done) b = (r : Sheet) × (read_sheet s ≡ kept r) × Begun r p b
+SetsUp s p (Err q) b = (b ≡ nowhere) × Refuses (λ r. NotValid r p) s q
 
 -- ---- an action, of the box b
 
@@ -56,6 +55,6 @@ pub record Went (r : Sheet) (b : RunningBox) (name : List ℕ) (after : RunningB
   pub place : Stands after (Ends r b name)
 
 -- of the answer, and of the box after it: "A refused call leaves the place as it was"
-abbrev pub Acts : List ℕ → RunningBox → List ℕ → Answer → RunningBox → Type 0
-Acts s b name Done after = (r : Sheet) × (read_sheet s ≡ kept r) × Went r b name after
-Acts s b name (Refused q) after = (after ≡ b) × Refuses (λ r q. NotValid r b.product q ⊎ NoMove r b name q) s q
+abbrev pub Acts : List ℕ → RunningBox → List ℕ → Result (Unit {0}) Refusal → RunningBox → Type 0
+Acts s b name (Ok done) after = (r : Sheet) × (read_sheet s ≡ kept r) × Went r b name after
+Acts s b name (Err q) after = (after ≡ b) × Refuses (λ r q. NotValid r b.product q ⊎ NoMove r b name q) s q

@@ -3,15 +3,14 @@
 // its place from one action to the next. Of a sheet it knows what the reader promises, and nothing else.
 #![tactic(auto)]
 
-ghost use Rattle.std.specs.Prelude.{◌≡◌, min};
+ghost use Rattle.std.specs.Prelude.{min};
 ghost use Rattle.text.specs.Text.{Wrote};
-ghost use Rattle.refusals.specs.Refusal.{refusal};
-ghost use Rattle.running.specs.Promise.{called, nowhere, SetsUp, Acts};
+ghost use Rattle.running.specs.Promise.{SetsUp, Acts};
 ghost use Rattle.running.specs.Shown.{place_text, state_text, Told};
-ghost use Rattle.running.specs.Inside.{Looks, RowLeads, Added, Gathered, leads_at};
+ghost use Rattle.running.specs.Inside.{Starts, Steps, Looks, RowLeads, Added, Gathered, leads_at};
 
-use refusals::Refusal;
-use sheet::SheetRead;
+use refusals::{Reason, Refusal, refuse};
+use sheet::Counts;
 use tables::{ACTION, ACTION_END, FROM, MOST_MOVES, MOST_STOPS, TO};
 
 // A box: its product, and its place, the set of states in which it may be, state q as bit q.
@@ -21,20 +20,16 @@ pub struct RunningBox {
     pub place: u64,
 }
 
-// The empty place.
-const NO_STATES: u64 = 0;
-
-// What a call answers: done, or refused.
-#[derive(Clone, Copy)]
-pub enum Answer {
-    Done,
-    Refused(Refusal),
-}
+// A box that was not set up: its place is empty.
+const NOWHERE: RunningBox = RunningBox {
+    product: 0,
+    place: 0,
+};
 
 // A call's answer, and the box after it.
 #[derive(Clone, Copy)]
 pub struct Called {
-    pub answer: Answer,
+    pub answer: Result<(), Refusal>,
     pub after: RunningBox,
 }
 
@@ -43,17 +38,31 @@ pub struct Called {
 pub fn set_up(text: &[u8], product: usize) -> Called
     ensures { SetsUp text.now product result.answer result.after }
 {
+    match start(text, product) {
+        Ok(after) => Called {
+            answer: Ok(()),
+            after,
+        },
+        Err(refusal) => Called {
+            answer: Err(refusal),
+            after: NOWHERE,
+        },
+    }
+}
+
+// The box that is set up.
+fn start(text: &[u8], product: usize) -> Result<RunningBox, Refusal>
+    ensures { Starts text.now product result }
+{
     let mut valid = [0u64; 16];
     let mut moves = [[0usize; 5]; MOST_MOVES];
     let mut guards = [[0u64; 16]; MOST_MOVES];
-    let read = look(text, &mut valid, &mut moves, &mut guards);
-    let SheetRead::Kept(c) = read else {
-        return pass_up(read, no_box());
-    };
+    let c = look(text, &mut valid, &mut moves, &mut guards)?;
     if !members::has(&valid, product) {
-        return refuse(12, no_box());
+        return refuse(Reason::InvalidProduct, 0, 0);
     }
-    go(product, states::with_state(0, c.start))
+    let place = states::with_state(0, c.start);
+    Ok(RunningBox { product, place })
 }
 
 // Takes the box one action further by the sheet `text`. Refused as the sheet is, then by 12, then by 19, and
@@ -61,31 +70,43 @@ pub fn set_up(text: &[u8], product: usize) -> Called
 pub fn act(text: &[u8], b: RunningBox, action: &[u8]) -> Called
     ensures { Acts text.now b action.now result.answer result.after }
 {
+    match step(text, b, action) {
+        Ok(after) => Called {
+            answer: Ok(()),
+            after,
+        },
+        Err(refusal) => Called {
+            answer: Err(refusal),
+            after: b,
+        },
+    }
+}
+
+// The box one action further.
+fn step(text: &[u8], b: RunningBox, action: &[u8]) -> Result<RunningBox, Refusal>
+    ensures { Steps text.now b action.now result }
+{
     let mut valid = [0u64; 16];
     let mut moves = [[0usize; 5]; MOST_MOVES];
     let mut guards = [[0u64; 16]; MOST_MOVES];
-    let read = look(text, &mut valid, &mut moves, &mut guards);
-    let SheetRead::Kept(c) = read else {
-        return pass_up(read, b);
-    };
+    let c = look(text, &mut valid, &mut moves, &mut guards)?;
     let allowed = members::has(&valid, b.product);
     let place = ends(text, c.moves, &moves, &guards, b, action);
     if !allowed {
-        return refuse(12, b);
+        return refuse(Reason::InvalidProduct, 0, 0);
     }
     if place == 0 {
-        return refuse(19, b);
+        return refuse(Reason::NoMove, 0, 0);
     }
-    go(b.product, place)
+    Ok(RunningBox { place, ..b })
 }
 
 // The same for a box that is lent.
-pub fn act_on(text: &[u8], b: &mut RunningBox, action: &[u8]) -> Answer
+pub fn act_on(text: &[u8], b: &mut RunningBox, action: &[u8]) -> Result<(), Refusal>
     ensures { Acts text.now b.old action.now result b.new }
 {
-    let done = act(text, *b, action);
-    *b = done.after;
-    done.answer
+    *b = step(text, *b, action)?;
+    Ok(())
 }
 
 // Lends a box to `act_on` and hands it back: who calls this needs no reference to a box.
@@ -105,11 +126,9 @@ pub fn act_held(text: &[u8], b: RunningBox, action: &[u8]) -> Called
 pub fn put_called(x: Called, room: &mut [u8]) -> usize
     ensures { Told room.old room.new result x }
 {
-    let answer = x.answer;
-    let after = x.after;
-    match answer {
-        Answer::Done => put_place(room, 0, after.place),
-        Answer::Refused(q) => refusals::put_refusal(room, 0, q),
+    match x.answer {
+        Ok(()) => put_place(room, 0, x.after.place),
+        Err(q) => refusals::put_refusal(room, 0, q),
     }
 }
 
@@ -120,7 +139,7 @@ fn look(
     valid: &mut [u64; 16],
     moves: &mut [[usize; 5]; 256],
     guards: &mut [[u64; 16]; 256],
-) -> SheetRead
+) -> Result<Counts, Refusal>
     ensures { Looks text.now valid.new moves.new guards.new result }
 {
     let mut names = [[0usize; 2]; 10];
@@ -137,52 +156,6 @@ fn look(
     )
 }
 
-// A box that was not set up.
-fn no_box() -> RunningBox
-    ensures { result ≡ nowhere }
-{
-    RunningBox {
-        product: 0,
-        place: NO_STATES,
-    }
-}
-
-fn go(product: usize, place: u64) -> Called
-    ensures { result ≡ called Answer.Done (record { product = product; place = place }) }
-{
-    Called {
-        answer: Answer::Done,
-        after: RunningBox { product, place },
-    }
-}
-
-// By a number that speaks of no line and no place.
-fn refuse(number: u8, b: RunningBox) -> Called
-    ensures { result ≡ called (Answer.Refused (refusal number 0 0)) b }
-{
-    Called {
-        answer: Answer::Refused(Refusal {
-            number,
-            line: 0,
-            place: 0,
-        }),
-        after: b,
-    }
-}
-
-// The reader's refusal, unchanged.
-fn pass_up(r: SheetRead, b: RunningBox) -> Called
-    ensures { (q : Refusal) → r ≡ SheetRead.Refused q → result ≡ called (Answer.Refused q) b }
-{
-    match r {
-        SheetRead::Refused(q) => Called {
-            answer: Answer::Refused(q),
-            after: b,
-        },
-        SheetRead::Kept(_) => refuse(0, b),
-    }
-}
-
 // The states to which the first `count` moves lead the box by the action's name.
 fn ends(
     text: &[u8],
@@ -194,13 +167,10 @@ fn ends(
 ) -> u64
     ensures { Gathered (leads_at text.now moves.now guards.now b action.now) (min count 256) result }
 {
-    let n = counts::at_most(count, MOST_MOVES);
+    let n = count.min(MOST_MOVES);
     let mut place = 0u64;
-    let mut i = 0;
-    while i < n {
-        let row = moves[i];
-        place = with_row(text, row, &guards[i], b, action, place);
-        i += 1;
+    for i in 0..n {
+        place = with_row(text, moves[i], &guards[i], b, action, place);
     }
     place
 }
@@ -234,10 +204,8 @@ fn put_place(room: &mut [u8], at: usize, place: u64) -> usize
     ensures { Wrote room.old at (place_text place) room.new result }
 {
     let mut next = text::put_bytes(room, at, b"place");
-    let mut q = 0;
-    while q < 64 {
+    for q in 0..64 {
         next = put_state(room, next, place, q);
-        q += 1;
     }
     text::put(room, next, b'\n')
 }

@@ -1,21 +1,15 @@
 -- What reading tells of a sheet: it is kept, and then it is as `Accepted` says, or it is refused by a number of the table. Each line keeps the
 -- limits, and no move or stop stands before the last feature; so the numbers of features in guards stay declared. Assumes nothing.
-use mathlib.Core.Path.{◌≡◌, refl, sym}
-use mathlib.Core.Bool.{Bool, true, false, not, ◌&&◌, and-eq-true_iff, false≢true}
-use mathlib.Core.List.{List, [], ◌∷◌, Memᴰ}
-use Prim.Native.Nat.{ℕ, suc, ◌+◌, ◌-◌, ◌^◌, ◌≤◌, ◌<◌}
-use native.Mathlib.Omega.{arith}
+use Rattle.std.proofs.Common.{Option, Some, None, ◌≡◌, refl, sym, Bool, true, false, not, List, [], ◌∷◌, ℕ, suc, ◌+◌, ◌-◌, ◌^◌, ◌≤◌, ◌<◌, arith, eqb, leb, ltb, length, pow_mono}
+use mathlib.Core.Bool.{false≢true}
+use mathlib.Core.List.{Memᴰ}
 use borrow.Author.Tests.{leb-true, leb-false, le-leb, not-false}
-use lib.Dec.{eqb, leb, ltb}
-use lib.ListN.{length}
-use lib.Pow.{pow_mono}
 use Rattle.text.specs.Text.{decimal}
+use Rattle.refusals.specs.declared.Reason.TheVariants as because
+use Rattle.refusals.specs.declared.Reason.{Reason}
 use Rattle.refusals.specs.declared.Refusal.{Refusal}
-use Rattle.refusals.specs.Refusal.{refusal}
-use Rattle.products.specs.declared.Found.{Found}
-use Rattle.products.specs.declared.Found.TheVariants.{At, Nothing}
-use Rattle.fields.specs.declared.Number.{Number}
-use Rattle.fields.specs.declared.Number.TheVariants.{Of, Bad}
+use Rattle.refusals.specs.Refusal.{number_of, refusal}
+use Rattle.refusals.proofs.Numbers.{number_low}
 use Rattle.fields.specs.Bytes.{same_bytes, is_name, is_action, read_state}
 use Rattle.fields.specs.Cutting.{lines, fields, One, only, not_one, Two, two, not_two, Four, four, not_four, as_one, as_two, as_four}
 use Rattle.values.proofs.States.{state_small, state_written}
@@ -29,9 +23,9 @@ use Rattle.sheet.proofs.Rows.{names_length}
 use Rattle.sheet.proofs.LineKinds.{by_kind_lem}
 use Rattle.sheet.proofs.ValidProducts.{some, valid_both}
 
--- a number of the table of refusals
-abbrev InTable : ℕ → Type 0
-InTable e = (leb 1 e && leb e 10) ≡ true
+-- a reason of the table of refusals for sheets
+abbrev InTable : Reason → Type 0
+InTable e = leb (number_of e) 10 ≡ true
 
 -- an answer that is refused with the property R, or kept with the property P
 pub data Tells {A : Type 0} (R : Refusal → Type 0) (P : A → Type 0) : Answer A → Type 0 where
@@ -48,7 +42,7 @@ told_refused {q = q} (refuses {q = d} h) e = let z : d ≡ q = cc in rw z at h
 
 -- an answer that is refused by a number of the table, or kept with the property P
 abbrev pub Told : {A : Type 0} → (A → Type 0) → Answer A → Type 0
-Told P a = Tells (λ q. InTable q.number) P a
+Told P a = Tells (λ q. InTable q.reason) P a
 
 -- ---- what each test tells
 
@@ -62,16 +56,16 @@ pub told_if : {A : Type 0} {R : Refusal → Type 0} {P : A → Type 0} {a : Answ
 told_if q t h f = told_by q t (λ e. h) f
 
 module _ {R : Refusal → Type 0} {P : State → Type 0} (n p : ℕ) where
-  pub told_number : {k : ℕ → Answer State} (x : List ℕ) → (read_state x ≡ Bad → R (refusal 4 n p)) → ((q : ℕ) → read_state x ≡ Of q → Tells R P (k q))
+  pub told_number : {k : ℕ → Answer State} (x : List ℕ) → (read_state x ≡ None → R (refusal because.BadField n p)) → ((q : ℕ) → read_state x ≡ Some q → Tells R P (k q))
       → Tells R P (stated n p (read_state x) k)
   told_number {k} x bad f = go (read_state x) refl
     where
-      go : (o : Number) → read_state x ≡ o → Tells R P (stated n p o k)
-      go Bad e = refuses (bad e)
-      go (Of q) e = f q e
+      go : (o : Option ℕ) → read_state x ≡ o → Tells R P (stated n p o k)
+      go None e = refuses (bad e)
+      go (Some q) e = f q e
 
   pub told_outcome : {k : Guard → Answer State} (ns : List (List ℕ)) (x : List ℕ)
-      → ((e : ℕ) (from : List ℕ) → read_whole ns x ≡ faulty e from → R (refusal e n (p + (length x - length from))))
+      → ((e : Reason) (from : List ℕ) → read_whole ns x ≡ faulty e from → R (refusal e n (p + (length x - length from))))
       → ((g : Guard) (rest : List ℕ) → read_whole ns x ≡ took g rest → Tells R P (k g))
       → Tells R P (guarded n p x (read_whole ns x) k)
   told_outcome {k} ns x bad f = go (read_whole ns x) refl
@@ -89,7 +83,7 @@ pub told_guard : {P : State → Type 0} {k : Guard → Answer State} (n p : ℕ)
     → Told P (guarded n p x (read_whole (names fs) x) k)
 told_guard n p fs x f =
     told_outcome n p (names fs) x
-    (λ e from q. let h = whole_faulty (names fs) x q in rw (le-leb 1 e (omega (arith, h.0)), le-leb e 10 (omega (arith, h.1))))
+    (λ e from q. let h = whole_faulty (names fs) x q in le-leb (number_of e) 10 (omega (arith, h.1)))
     (λ g rest q. let h = whole_exactly (names fs) x q in f g (record { declared = rw (names_length fs) at h.2; nested = h.3 }) h.1)
 
 -- ---- what the lines so far keep
@@ -111,15 +105,15 @@ never_good : (n : ℕ) → GoodGuard n never
 unfolding Declared nesting
 never_good n = record { declared = tt; nested = omega arith }
 
-not_known : (f : Found) → is_known f ≡ false → f ≡ Nothing
-not_known (At i) e = absurd (false≢true (sym e))
-not_known Nothing e = refl
+not_known : (f : Option ℕ) → is_known f ≡ false → f ≡ None
+not_known (Some i) e = absurd (false≢true (sym e))
+not_known None e = refl
 
 module _ (n at : ℕ) (st : State) (sound : Sound st) where
   fts_told : st.section ≤ 1 → (x : One) → Told Sound (fts_line n st x)
   unfolding fts_line
   fts_told h not_one = refuses refl
-  fts_told h (only x) = told_if (refusal 3 n 0) (not (same_bytes x edition_word)) refl (λ t. keeps (record { early = λ l. sound.early h; limits = sound.limits }))
+  fts_told h (only x) = told_if (refusal because.BadLine n 0) (not (same_bytes x edition_word)) refl (λ t. keeps (record { early = λ l. sound.early h; limits = sound.limits }))
 
   feature_told : st.section ≤ 1 → (x : One) → Told Sound (feature_line n at st x)
   unfolding feature_line names
@@ -127,9 +121,9 @@ module _ (n at : ℕ) (st : State) (sound : Sound st) where
   feature_told h (only x) =
       let e = sound.early h in
       let l = sound.limits in
-      told_if (refusal 8 n 0) (leb 10 (length st.sheet.features)) refl
-      (λ few. told_if (refusal 4 n (place_behind (feature_word ∷ []))) (not (is_name x)) refl
-      (λ good. told_if (refusal 9 n (place_behind (feature_word ∷ []))) (is_known (number (names st.sheet.features) x)) refl
+      told_if (refusal because.TooManyLines n 0) (leb 10 (length st.sheet.features)) refl
+      (λ few. told_if (refusal because.BadField n (place_behind (feature_word ∷ []))) (not (is_name x)) refl
+      (λ good. told_if (refusal because.Repeat n (place_behind (feature_word ∷ []))) (is_known (number (names st.sheet.features) x)) refl
       (λ new. keeps (record {
         early = λ u. e;
         limits = record {
@@ -170,12 +164,12 @@ module _ (n at : ℕ) (st : State) (sound : Sound st) where
   move_told not_four = refuses refl
   move_told (four f a t g) =
       let l = sound.limits in
-      told_if (refusal 8 n 0) (leb 256 (length st.sheet.moves)) refl
+      told_if (refusal because.TooManyLines n 0) (leb 256 (length st.sheet.moves)) refl
       (λ few. told_state n (place_behind (move_word ∷ [])) f
-      (λ from lf ef. told_if (refusal 4 n (place_behind (move_word ∷ f ∷ []))) (not (is_action a)) refl
+      (λ from lf ef. told_if (refusal because.BadField n (place_behind (move_word ∷ f ∷ []))) (not (is_action a)) refl
       (λ act. told_state n (place_behind (move_word ∷ f ∷ a ∷ [])) t
       (λ to lt et. told_guard n (place_behind (move_word ∷ f ∷ a ∷ t ∷ [])) st.sheet.features g
-      (λ guard good eg. told_if (refusal 9 n (place_behind (move_word ∷ []))) (moved from a to st.sheet.moves) refl
+      (λ guard good eg. told_if (refusal because.Repeat n (place_behind (move_word ∷ []))) (moved from a to st.sheet.moves) refl
       (λ new. keeps (record {
         early = λ u. absurd (omega arith);
         limits = record {
@@ -196,7 +190,7 @@ module _ (n at : ℕ) (st : State) (sound : Sound st) where
       let l = sound.limits in
       told_state n (place_behind (stop_word ∷ [])) q
       (λ state small es. told_guard n (place_behind (stop_word ∷ q ∷ [])) st.sheet.features g
-      (λ guard good eg. told_if (refusal 9 n (place_behind (stop_word ∷ []))) (stopped state st.sheet.stops) refl
+      (λ guard good eg. told_if (refusal because.Repeat n (place_behind (stop_word ∷ []))) (stopped state st.sheet.stops) refl
       (λ new. keeps (record {
         early = λ u. absurd (omega arith);
         limits = record {
@@ -230,8 +224,8 @@ ended_told : (n : ℕ) (st : State) → Sound st → Told Accepted (ended n st)
 unfolding ended
 ended_told n st sound =
     let l = sound.limits in
-    told_if (refusal 3 n 0) (ltb st.section 3) refl
-    (λ t. told_if (refusal 10 st.valid_line 0) (none (is_valid st.sheet) (2 ^ length st.sheet.features)) refl
+    told_if (refusal because.BadLine n 0) (ltb st.section 3) refl
+    (λ t. told_if (refusal because.NoValidProduct st.valid_line 0) (none (is_valid st.sheet) (2 ^ length st.sheet.features)) refl
     (λ found. keeps (record {
       few_features = l.few_features;
       names = l.names;
@@ -263,8 +257,8 @@ nothing_sound =
 sheet_told : (s : List ℕ) → Told Accepted (read_sheet s)
 unfolding read_sheet
 sheet_told s =
-    told_if (refusal 1 0 0) (ltb 65536 (length s)) refl
-    (λ few. told_if (refusal 2 0 0) (not (eqb (last 0 s) 10)) refl
+    told_if (refusal because.SheetTooLong 0 0) (ltb 65536 (length s)) refl
+    (λ few. told_if (refusal because.NoLastLineEnd 0 0) (not (eqb (last 0 s) 10)) refl
     (λ ends. lines_told (lines s) 1 0 nothing nothing_sound))
 
 -- what is kept is within the limits, without repeats, and has a valid product
@@ -272,10 +266,9 @@ pub accepted : (s : List ℕ) {r : Sheet} → read_sheet s ≡ kept r → Accept
 accepted s e = told_kept (sheet_told s) e
 
 -- refusals have the numbers of the table
-pub refused_number : (s : List ℕ) {q : Refusal} → read_sheet s ≡ refused q → (1 ≤ q.number) × (q.number ≤ 10)
+pub refused_number : (s : List ℕ) {q : Refusal} → read_sheet s ≡ refused q → (1 ≤ number_of q.reason) × (number_of q.reason ≤ 10)
 refused_number s {q} e =
-    let k = (and-eq-true_iff (leb 1 q.number) (leb q.number 10)).0 (told_refused (sheet_told s) e) in
-    (leb-true 1 q.number k.0, leb-true q.number 10 k.1)
+    (number_low q.reason, leb-true (number_of q.reason) 10 (told_refused (sheet_told s) e))
 
 -- a product of such a sheet's features is below 1,024
 pub product_below : {r : Sheet} {p : ℕ} → Accepted r → p < 2 ^ length r.features → p < 1024

@@ -1,9 +1,5 @@
 -- Where a field begins in its line: behind the bytes of the fields before it, each with its tab. Assumes nothing.
-use mathlib.Core.Path.{◌≡◌, refl, sym, ap, ◌∙◌}
-use mathlib.Core.List.{List, [], ◌∷◌, ◌++◌, append_assoc, append-nil}
-use Prim.Native.Nat.{ℕ, ◌+◌, ◌≤◌}
-use native.Mathlib.Omega.{arith}
-use lib.ListN.{length, length-append}
+use Rattle.std.proofs.Common.{◌≡◌, refl, sym, ap, ◌∙◌, List, [], ◌∷◌, ◌++◌, append_assoc, append-nil, ℕ, ◌+◌, ◌≤◌, arith, length, length-append}
 use Rattle.fields.specs.Cutting.{fields, join}
 use Rattle.fields.proofs.Cuts.{join_fields}
 use Rattle.sheet.specs.Reading.{place_behind}

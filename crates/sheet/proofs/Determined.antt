@@ -1,19 +1,11 @@
 -- The promise of `read_sheet` determines the answer and the tables: the text determines the sheet, the sheet determines each row of a table, and
 -- behind the rows of a sheet a table is blank. Assumes nothing.
-use mathlib.Core.Path.{◌≡◌, sym, ap, subst, ◌∙◌}
-use mathlib.Core.Logic.{⊎_elim}
-use mathlib.Core.List.{List, []}
-use Prim.Native.Nat.{ℕ, ◌-◌, ◌<◌}
-use native.Mathlib.Nat.{eq-zero-or-pos}
-use native.Mathlib.Omega.{arith}
-use lib.ListN.{length, get_or}
-use lib.Seq.{ext_get_or}
+use Rattle.refusals.specs.declared.Refusal.{Refusal}
+use Rattle.std.proofs.Common.{Result, Ok, Err, ◌≡◌, sym, ap, subst, ◌∙◌, ⊎_elim, List, [], ℕ, ◌-◌, ◌<◌, eq-zero-or-pos, arith, length, get_or, ext_get_or}
 use Rattle.products.specs.Sets.{one_if, Words}
 use Rattle.products.proofs.Determined.{members_determine}
 use Rattle.guards.specs.Guard.{Guard, holds, Means}
 use Rattle.sheet.specs.declared.Counts.{Counts}
-use Rattle.sheet.specs.declared.SheetRead.{SheetRead}
-use Rattle.sheet.specs.declared.SheetRead.TheVariants as whole
 use Rattle.sheet.specs.Sheet.{Sheet, is_valid}
 use Rattle.sheet.specs.Tables.{Tables, Rows, none, next, Table, StandsFor, Sized, ReadsSheet}
 use Rattle.sheet.proofs.Rows.{rows_length}
@@ -76,12 +68,12 @@ tables_determined {T = T} {U} {r = r} x y k l p q =
     let valid = members_determine (λ n. one_if (is_valid r n)) T.valid U.valid x.valid y.valid p.valid q.valid in
     (same_counts features.0 (p.start ∙ sym q.start) moves.0 stops.0, same_tables features.1 valid moves.1 guards.1 stops.1 ends.1)
 
-pub sheet_determined : (m g t h : ℕ) (s : List ℕ) {T U : Tables} (a b : SheetRead) → ReadsSheet m g t h s T a → ReadsSheet m g t h s U b → Typed T → Typed U
+pub sheet_determined : (m g t h : ℕ) (s : List ℕ) {T U : Tables} (a b : Result Counts Refusal) → ReadsSheet m g t h s T a → ReadsSheet m g t h s U b → Typed T → Typed U
     → (a ≡ b) × (T ≡ U)
-sheet_determined m g t h s (whole.Kept c) (whole.Kept d) ((r, p, stands), k) ((v, q, for), l) x y =
+sheet_determined m g t h s (Ok c) (Ok d) ((r, p, stands), k) ((v, q, for), l) x y =
     let e : r ≡ v = cc in
     let z = tables_determined x y k l stands (rw (sym e) at for) in
-    (ap whole.Kept z.0, z.1)
-sheet_determined m g t h s (whole.Kept c) (whole.Refused e) ((r, p, stands), k) q x y = let z : ◌≡◌ {A = ℕ} 0 1 = cc in absurd (omega arith)
-sheet_determined m g t h s (whole.Refused e) (whole.Kept d) p ((v, q, for), l) x y = let z : ◌≡◌ {A = ℕ} 0 1 = cc in absurd (omega arith)
-sheet_determined m g t h s (whole.Refused e) (whole.Refused d) p q x y = (cc, p.1 ∙ sym q.1)
+    (ap Ok z.0, z.1)
+sheet_determined m g t h s (Ok c) (Err e) ((r, p, stands), k) q x y = let z : ◌≡◌ {A = ℕ} 0 1 = cc in absurd (omega arith)
+sheet_determined m g t h s (Err e) (Ok d) p ((v, q, for), l) x y = let z : ◌≡◌ {A = ℕ} 0 1 = cc in absurd (omega arith)
+sheet_determined m g t h s (Err e) (Err d) p q x y = (cc, p.1 ∙ sym q.1)

@@ -1,13 +1,7 @@
 -- Looking through the rows of a table from the last back, for a test f of the list that is an "or" over its elements. While the loop runs, the
 -- test of the whole list is the test of the rows not yet looked at. Assumes nothing.
-use mathlib.Core.Path.{◌≡◌, refl, sym, ap, ◌∙◌}
-use mathlib.Core.Bool.{Bool, true, false}
-use mathlib.Core.List.{List, [], ◌∷◌}
-use Prim.Native.Nat.{ℕ, ◌-◌, ◌≤◌, ◌<◌}
-use native.Mathlib.Omega.{arith}
+use Rattle.std.proofs.Common.{◌≡◌, refl, sym, ap, ◌∙◌, Bool, true, false, List, [], ◌∷◌, ℕ, ◌-◌, ◌≤◌, ◌<◌, arith, eqb, get_or}
 use borrow.Author.Tests.{eq-eqb, ne_eqb}
-use lib.Dec.{eqb}
-use lib.ListN.{get_or}
 use Rattle.fields.specs.Bytes.{piece_of, same_bytes}
 use Rattle.sheet.specs.Sheet.{Move, Stop}
 use Rattle.sheet.specs.Reading.{is_move, moved, stopped}

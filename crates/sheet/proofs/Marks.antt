@@ -1,18 +1,11 @@
 -- The marks by which repeats are told: equal triples have one place, so where a place has no mark none of its triples has come, and a mark that is
 -- set keeps that true. Assumes nothing.
-use mathlib.Core.Path.{◌≡◌, refl, sym, ap, ◌∙◌}
-use mathlib.Core.Bool.{Bool, true, false, ◌&&◌, and-eq-true_iff}
-use mathlib.Core.List.{List, [], ◌∷◌}
-use Prim.Native.Nat.{ℕ, zero, suc, ◌+◌, ◌-◌, ◌*◌, ◌/◌, ◌%◌, ◌^◌, ◌≤◌, ◌<◌}
+use Rattle.std.proofs.Common.{◌≡◌, refl, sym, ap, ◌∙◌, Bool, true, false, ◌&&◌, List, [], ◌∷◌, ℕ, zero, suc, ◌+◌, ◌-◌, ◌*◌, ◌/◌, ◌%◌, ◌^◌, ◌≤◌, ◌<◌, arith, pow-suc, one-mul, bit_or, eqb, length, get_or, set, drop, replicate, length-set, shl_exact, get_or-set_same, get_or-set_other}
+use mathlib.Core.Bool.{and-eq-true_iff}
 use native.Mathlib.Decide.{ℕ_discrete}
-use native.Mathlib.Omega.{arith}
-use native.Mathlib.Nat.{pow-suc, one-mul}
 use borrow.Author.Tests.{eqb-true}
-use lib.Bits.{bit_or}
-use lib.Dec.{eqb}
-use lib.ListN.{length, get_or, set, drop, replicate, length-set, length-replicate}
-use lib.Pow.{shl_exact}
-use lib.Seq.{drop-length, get_or-set_same, get_or-set_other}
+use lib.ListN.{length-replicate}
+use lib.Seq.{drop-length}
 use Rattle.products.specs.Sets.{bit, has}
 use Rattle.products.proofs.Bits.{bit_or_lem, bit_suc}
 use Rattle.fields.specs.Bytes.{same_bytes}

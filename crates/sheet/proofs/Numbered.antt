@@ -1,13 +1,8 @@
 -- Line numbers of a sheet that is read: the line of a refusal, and the lines of an accepted sheet, have numbers of at most 65,537. Each line takes a byte
 -- at least, and a lacking line is one behind the last. Assumes nothing.
-use mathlib.Core.Path.{◌≡◌}
-use mathlib.Core.Bool.{Bool, true, false, not}
-use mathlib.Core.List.{List, [], ◌∷◌}
-use Prim.Native.Nat.{ℕ, suc, ◌+◌, ◌^◌, ◌≤◌}
-use native.Mathlib.Omega.{arith}
+use Rattle.std.proofs.Common.{◌≡◌, Bool, true, false, not, List, [], ◌∷◌, ℕ, suc, ◌+◌, ◌^◌, ◌≤◌, arith, eqb, leb, ltb, length}
 use borrow.Author.Tests.{ltb-false}
-use lib.Dec.{eqb, leb, ltb}
-use lib.ListN.{length}
+use Rattle.refusals.specs.declared.Reason.TheVariants as because
 use Rattle.refusals.specs.declared.Refusal.{Refusal}
 use Rattle.refusals.specs.Refusal.{refusal}
 use Rattle.fields.specs.Bytes.{same_bytes, is_name, is_action}
@@ -36,15 +31,15 @@ module _ (b n : ℕ) (h : n ≤ b) (st : State) (old : StateTo b st) where
   fts_numbered : (x : One) → Numbered (StateTo b) b (fts_line n st x)
   unfolding fts_line
   fts_numbered not_one = refuses h
-  fts_numbered (only x) = told_if (refusal 3 n 0) (not (same_bytes x edition_word)) h (λ t. keeps (record { valid = old.valid; moves = old.moves; stops = old.stops }))
+  fts_numbered (only x) = told_if (refusal because.BadLine n 0) (not (same_bytes x edition_word)) h (λ t. keeps (record { valid = old.valid; moves = old.moves; stops = old.stops }))
 
   feature_numbered : (at : ℕ) (x : One) → Numbered (StateTo b) b (feature_line n at st x)
   unfolding feature_line
   feature_numbered at not_one = refuses h
   feature_numbered at (only x) =
-      told_if (refusal 8 n 0) (leb 10 (length st.sheet.features)) h
-      (λ few. told_if (refusal 4 n (place_behind (feature_word ∷ []))) (not (is_name x)) h
-      (λ good. told_if (refusal 9 n (place_behind (feature_word ∷ []))) (is_known (number (names st.sheet.features) x)) h
+      told_if (refusal because.TooManyLines n 0) (leb 10 (length st.sheet.features)) h
+      (λ few. told_if (refusal because.BadField n (place_behind (feature_word ∷ []))) (not (is_name x)) h
+      (λ good. told_if (refusal because.Repeat n (place_behind (feature_word ∷ []))) (is_known (number (names st.sheet.features) x)) h
       (λ new. keeps (record { valid = old.valid; moves = old.moves; stops = old.stops }))))
 
   valid_numbered : (x : One) → Numbered (StateTo b) b (valid_line n st x)
@@ -61,12 +56,12 @@ module _ (b n : ℕ) (h : n ≤ b) (st : State) (old : StateTo b st) where
   unfolding move_line guarded_move
   move_numbered at not_four = refuses h
   move_numbered at (four f a t g) =
-      told_if (refusal 8 n 0) (leb 256 (length st.sheet.moves)) h
+      told_if (refusal because.TooManyLines n 0) (leb 256 (length st.sheet.moves)) h
       (λ few. told_number n (place_behind (move_word ∷ [])) f (λ e. h)
-      (λ from e. told_if (refusal 4 n (place_behind (move_word ∷ f ∷ []))) (not (is_action a)) h
+      (λ from e. told_if (refusal because.BadField n (place_behind (move_word ∷ f ∷ []))) (not (is_action a)) h
       (λ act. told_number n (place_behind (move_word ∷ f ∷ a ∷ [])) t (λ e. h)
       (λ to e. told_outcome n (place_behind (move_word ∷ f ∷ a ∷ t ∷ [])) (names st.sheet.features) g (λ e from q. h)
-      (λ guard rest q. told_if (refusal 9 n (place_behind (move_word ∷ []))) (moved from a to st.sheet.moves) h
+      (λ guard rest q. told_if (refusal because.Repeat n (place_behind (move_word ∷ []))) (moved from a to st.sheet.moves) h
       (λ new. keeps (record { valid = old.valid; moves = (h, old.moves); stops = old.stops })))))))
 
   stop_numbered : (x : Two) → Numbered (StateTo b) b (stop_line n st x)
@@ -75,7 +70,7 @@ module _ (b n : ℕ) (h : n ≤ b) (st : State) (old : StateTo b st) where
   stop_numbered (two q g) =
       told_number n (place_behind (stop_word ∷ [])) q (λ e. h)
       (λ state e. told_outcome n (place_behind (stop_word ∷ q ∷ [])) (names st.sheet.features) g (λ e from f. h)
-      (λ guard rest f. told_if (refusal 9 n (place_behind (stop_word ∷ []))) (stopped state st.sheet.stops) h
+      (λ guard rest f. told_if (refusal because.Repeat n (place_behind (stop_word ∷ []))) (stopped state st.sheet.stops) h
       (λ new. keeps (record { valid = old.valid; moves = old.moves; stops = (h, old.stops) }))))
 
   kind_numbered : (at : ℕ) (fs : List (List ℕ)) (k : LineKind) → Numbered (StateTo b) b (by_kind k n at st fs)
@@ -94,8 +89,8 @@ module _ (b n : ℕ) (h : n ≤ b) (st : State) (old : StateTo b st) where
   ended_numbered : Numbered (LinesTo b) b (ended n st)
   unfolding ended
   ended_numbered =
-      told_if (refusal 3 n 0) (ltb st.section 3) h
-      (λ t. told_if (refusal 10 st.valid_line 0) (none (is_valid st.sheet) (2 ^ length st.sheet.features)) old.valid
+      told_if (refusal because.BadLine n 0) (ltb st.section 3) h
+      (λ t. told_if (refusal because.NoValidProduct st.valid_line 0) (none (is_valid st.sheet) (2 ^ length st.sheet.features)) old.valid
       (λ found. keeps (record { moves = old.moves; stops = old.stops })))
 
 -- ---- all lines
@@ -120,8 +115,8 @@ lines_few (b ∷ s) = omega (arith, onto_few (eqb b 10) b (lines s), lines_few s
 sheet_numbered : (s : List ℕ) → Numbered (LinesTo 65537) 65537 (read_sheet s)
 unfolding read_sheet
 sheet_numbered s =
-    told_if (refusal 1 0 0) (ltb 65536 (length s)) (omega arith)
-    (λ few. told_if (refusal 2 0 0) (not (eqb (last 0 s) 10)) (omega arith)
+    told_if (refusal because.SheetTooLong 0 0) (ltb 65536 (length s)) (omega arith)
+    (λ few. told_if (refusal because.NoLastLineEnd 0 0) (not (eqb (last 0 s) 10)) (omega arith)
     (λ ends. lines_numbered 65537 (lines s) 1 0 nothing (omega (arith, lines_few s, ltb-false 65536 (length s) few))
     (record { valid = omega arith; moves = tt; stops = tt })))
 

@@ -1,15 +1,10 @@
 -- What is told of a place leaves one place: a sheet's line has one guard, one field that 4 or 9 concerns, and a guard one leftmost faulty byte. Each kind of
 -- line is known by its word. Assumes nothing.
-use mathlib.Core.Path.{◌≡◌, refl, sym, ap, ◌∙◌}
-use mathlib.Core.Bool.{cond}
-use mathlib.Core.List.{List, [], ◌∷◌, ◌++◌}
-use Prim.Native.Nat.{ℕ, ◌+◌}
-use native.Mathlib.Omega.{arith}
-use lib.Dec.{eqb}
-use lib.ListN.{length, length-append}
+use Rattle.std.proofs.Common.{Option, Some, None, ◌≡◌, refl, sym, ap, ◌∙◌, cond, List, [], ◌∷◌, ◌++◌, ℕ, ◌+◌, arith, eqb, length, length-append}
+use Rattle.refusals.specs.Refusal.{number_of}
+use Rattle.refusals.specs.declared.Reason.{Reason}
 use Rattle.refusals.specs.declared.Refusal.{Refusal}
-use Rattle.fields.specs.declared.Number.{Number}
-use Rattle.fields.specs.declared.Number.TheVariants.{Of, Bad}
+use Rattle.refusals.proofs.Numbers.{one_reason}
 use Rattle.fields.specs.Bytes.{same_bytes, is_action, read_state}
 use Rattle.fields.specs.Cutting.{fields}
 use Rattle.guards.specs.Reading.{read_whole}
@@ -38,17 +33,17 @@ line_same s e k l =
 -- ---- 4 and 9: the fields before the one concerned, by the number and all fields
 
 -- of a move, by what is bad
-abbrev bad_of : List ℕ → List ℕ → List (List ℕ) → Number → List (List ℕ)
-bad_of w f fs Bad = w ∷ []
-bad_of w f [] (Of q) = w ∷ f ∷ []
-bad_of w f (a ∷ fs) (Of q) = cond (is_action a) (w ∷ f ∷ a ∷ []) (w ∷ f ∷ [])
+abbrev bad_of : List ℕ → List ℕ → List (List ℕ) → Option ℕ → List (List ℕ)
+bad_of w f fs None = w ∷ []
+bad_of w f [] (Some q) = w ∷ f ∷ []
+bad_of w f (a ∷ fs) (Some q) = cond (is_action a) (w ∷ f ∷ a ∷ []) (w ∷ f ∷ [])
 
-abbrev before_in : ℕ → List (List ℕ) → List (List ℕ)
+abbrev before_in : Reason → List (List ℕ) → List (List ℕ)
 before_in e [] = []
 before_in e (w ∷ []) = w ∷ []
-before_in e (w ∷ f ∷ fs) = cond (eqb e 9) (w ∷ []) (cond (same_bytes w move_word) (bad_of w f fs (read_state f)) (w ∷ []))
+before_in e (w ∷ f ∷ fs) = cond (eqb (number_of e) 9) (w ∷ []) (cond (same_bytes w move_word) (bad_of w f fs (read_state f)) (w ∷ []))
 
-concerned_before : {e : ℕ} {before : List (List ℕ)} {x : List ℕ} → Concerned e before x → (after : List (List ℕ)) → before ≡ before_in e (before ++ x ∷ after)
+concerned_before : {e : Reason} {before : List (List ℕ)} {x : List ℕ} → Concerned e before x → (after : List (List ℕ)) → before ≡ before_in e (before ++ x ∷ after)
 unfolding same_bytes
 concerned_before (places.name h) after = refl
 concerned_before (places.start h) after = refl
@@ -60,14 +55,14 @@ concerned_before places.of_feature after = refl
 concerned_before places.of_move after = refl
 concerned_before places.of_stop after = refl
 
-pub field_place : (s : List ℕ) {q r : Refusal} → q.number ≡ r.number → q.line ≡ r.line → FieldThere s q → FieldThere s r → q.place ≡ r.place
+pub field_place : (s : List ℕ) {q r : Refusal} → number_of q.reason ≡ number_of r.reason → q.line ≡ r.line → FieldThere s q → FieldThere s r → q.place ≡ r.place
 field_place s {q} {r} e n a b =
     let l = (line_same s n a.of b.of).1 in
     let f : a.before ++ a.field ∷ a.begins.after ≡ b.before ++ b.field ∷ b.begins.after = sym a.begins.cut ∙ ap fields l ∙ b.begins.cut in
     let same : a.before ≡ b.before =
     concerned_before a.concerned a.begins.after
-    ∙ ap (λ (k : ℕ). before_in k (a.before ++ a.field ∷ a.begins.after)) e
-    ∙ ap (before_in r.number) f
+    ∙ ap (λ (k : Reason). before_in k (a.before ++ a.field ∷ a.begins.after)) (one_reason q.reason r.reason e)
+    ∙ ap (before_in r.reason) f
     ∙ sym (concerned_before b.concerned b.begins.after) in
     a.begins.place ∙ ap (λ (fs : List (List ℕ)). length (tabbed fs) + 1) same ∙ sym b.begins.place
 

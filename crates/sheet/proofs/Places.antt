@@ -1,17 +1,12 @@
 -- What stands at the place of a refusal: each line that is refused tells it, each that is kept adds the name that it declares, and so the refusal of a
 -- whole sheet tells it of its line. Assumes nothing.
-use mathlib.Core.Path.{◌≡◌, refl, sym, ap, ◌∙◌}
-use mathlib.Core.Bool.{Bool, true, false, not, ◌&&◌, ◌||◌, false≢true}
-use mathlib.Core.List.{List, [], ◌∷◌, ◌++◌, append_assoc}
-use mathlib.Core.Logic.{◌⊎◌, inl, inr, ⊎_elim}
-use Prim.Native.Nat.{ℕ, suc, ◌+◌, ◌-◌, ◌^◌, ◌≤◌}
-use native.Mathlib.Omega.{arith}
-use native.Mathlib.Nat.{eq-zero-or-pos}
+use Rattle.std.proofs.Common.{◌≡◌, refl, sym, ap, ◌∙◌, Bool, true, false, not, ◌&&◌, ◌||◌, List, [], ◌∷◌, ◌++◌, append_assoc, ◌⊎◌, inl, inr, ⊎_elim, ℕ, suc, ◌+◌, ◌-◌, ◌^◌, ◌≤◌, arith, eq-zero-or-pos, eqb, leb, ltb, length, length-append}
+use mathlib.Core.Bool.{false≢true}
 use borrow.Author.Tests.{not-true, not-false, ne_eqb, le-leb}
-use lib.Dec.{eqb, leb, ltb}
-use lib.ListN.{length, length-append}
+use Rattle.refusals.specs.declared.Reason.TheVariants as because
+use Rattle.refusals.specs.declared.Reason.{Reason}
 use Rattle.refusals.specs.declared.Refusal.{Refusal}
-use Rattle.refusals.specs.Refusal.{refusal}
+use Rattle.refusals.specs.Refusal.{number_of, refusal}
 use Rattle.fields.specs.Bytes.{same_bytes, is_name, is_action}
 use Rattle.fields.specs.Cutting.{onto, cut, lines, fields, as_one, as_two, as_four}
 use Rattle.guards.specs.Reading.{faulty, number, read_whole, GoodNames}
@@ -29,20 +24,20 @@ use Rattle.sheet.proofs.Begins.{field_begins, field_ends}
 
 -- ---- what a refusal speaks of
 
--- the numbers that come with a place
-abbrev has_place : ℕ → Bool
-has_place e = (eqb e 4 || eqb e 9) || (leb 5 e && leb e 7)
+-- the reasons that come with a place, by their numbers
+abbrev has_place : Reason → Bool
+has_place e = (eqb (number_of e) 4 || eqb (number_of e) 9) || (leb 5 (number_of e) && leb (number_of e) 7)
 
 -- a refusal of the line l, whose number is n, over the names declared above it
 data Placed (names : List (List ℕ)) (n : ℕ) (l : List ℕ) : Refusal → Type 0 where
-  field : {e : ℕ} {before : List (List ℕ)} {x : List ℕ} → Concerned e before x → FieldAt l before x (place_behind before) → Placed names n l (refusal e n (place_behind before))
-  byte : {e : ℕ} {before : List (List ℕ)} {x from : List ℕ} → BeforeGuard before → FieldAt l before x (place_behind before) → read_whole names x ≡ faulty e from
+  field : {e : Reason} {before : List (List ℕ)} {x : List ℕ} → Concerned e before x → FieldAt l before x (place_behind before) → Placed names n l (refusal e n (place_behind before))
+  byte : {e : Reason} {before : List (List ℕ)} {x from : List ℕ} → BeforeGuard before → FieldAt l before x (place_behind before) → read_whole names x ≡ faulty e from
       → Placed names n l (refusal e n (place_behind before + (length x - length from)))
-  nowhere : {e : ℕ} → has_place e ≡ false → Placed names n l (refusal e n 0)
+  nowhere : {e : Reason} → has_place e ≡ false → Placed names n l (refusal e n 0)
 
 -- of a sheet with these lines: the sheet as a whole, or one of its lines
 data Speaks (ls : List (List ℕ)) : Refusal → Type 0 where
-  of_all : {e n : ℕ} → has_place e ≡ false → Speaks ls (refusal e n 0)
+  of_all : {e : Reason} {n : ℕ} → has_place e ≡ false → Speaks ls (refusal e n 0)
   of_line : {q : Refusal} (above : List (List ℕ)) (line : List ℕ) (below : List (List ℕ)) → ls ≡ above ++ line ∷ below
       → GoodNames (declared_in above []) → Placed (declared_in above []) (length above + 1) line q → Speaks ls q
 
@@ -62,10 +57,10 @@ module _ (n at : ℕ) (st : State) (l w : List ℕ) (fs : List (List ℕ)) (is :
   abbrev Line : Answer State → Type 0
   Line a = Tells (Placed (names st.sheet.features) n l) (Declares (w ∷ fs) (names st.sheet.features)) a
 
-  unknown : Placed (names st.sheet.features) n l (refusal 3 n 0)
+  unknown : Placed (names st.sheet.features) n l (refusal because.BadLine n 0)
   unknown = nowhere refl
 
-  many : Placed (names st.sheet.features) n l (refusal 8 n 0)
+  many : Placed (names st.sheet.features) n l (refusal because.TooManyLines n 0)
   many = nowhere refl
 
   behind : {before : List (List ℕ)} {x : List ℕ} (after : List (List ℕ)) → w ∷ fs ≡ before ++ x ∷ after → FieldAt l before x (place_behind before)
@@ -79,7 +74,7 @@ module _ (n at : ℕ) (st : State) (l w : List ℕ) (fs : List (List ℕ)) (is :
   unfolding fts_line same_bytes
   fts_placed ew =
       by_one (λ o. Line (fts_line n st o)) fs (refuses unknown)
-      (λ x ef. told_if (refusal 3 n 0) (not (same_bytes x edition_word)) unknown (λ t. keeps (no_name ew refl refl)))
+      (λ x ef. told_if (refusal because.BadLine n 0) (not (same_bytes x edition_word)) unknown (λ t. keeps (no_name ew refl refl)))
 
   feature_placed : w ≡ feature_word → Line (feature_line n at st (as_one fs))
   unfolding feature_line same_bytes names
@@ -87,9 +82,9 @@ module _ (n at : ℕ) (st : State) (l w : List ℕ) (fs : List (List ℕ)) (is :
       by_one (λ o. Line (feature_line n at st o)) fs (refuses unknown)
       (λ x ef. let whole : w ∷ fs ≡ feature_word ∷ x ∷ [] = rw (ew, ef) in
       let b : FieldAt l (feature_word ∷ []) x (place_behind (feature_word ∷ [])) = behind [] whole in
-      told_if (refusal 8 n 0) (leb 10 (length st.sheet.features)) many
-      (λ few. told_by (refusal 4 n (place_behind (feature_word ∷ []))) (not (is_name x)) (λ t. field (places.name (not-true (is_name x) t)) b)
-      (λ good. told_if (refusal 9 n (place_behind (feature_word ∷ []))) (is_known (number (names st.sheet.features) x)) (field places.of_feature b)
+      told_if (refusal because.TooManyLines n 0) (leb 10 (length st.sheet.features)) many
+      (λ few. told_by (refusal because.BadField n (place_behind (feature_word ∷ []))) (not (is_name x)) (λ t. field (places.name (not-true (is_name x) t)) b)
+      (λ good. told_if (refusal because.Repeat n (place_behind (feature_word ∷ []))) (is_known (number (names st.sheet.features) x)) (field places.of_feature b)
       (λ new. keeps (record { is = sym (ap (λ (gs : List (List ℕ)). declaring gs (names st.sheet.features)) whole) })))))
 
   valid_placed : w ≡ valid_word → Line (valid_line n st (as_one fs))
@@ -111,14 +106,14 @@ module _ (n at : ℕ) (st : State) (l w : List ℕ) (fs : List (List ℕ)) (is :
   move_placed ew =
       by_four (λ o. Line (move_line n at st o)) fs (refuses unknown)
       (λ f a t g ef. let b : FieldAt l (move_word ∷ []) f (place_behind (move_word ∷ [])) = behind (a ∷ t ∷ g ∷ []) (rw (ew, ef)) in
-      told_if (refusal 8 n 0) (leb 256 (length st.sheet.moves)) many
+      told_if (refusal because.TooManyLines n 0) (leb 256 (length st.sheet.moves)) many
       (λ few. told_number n (place_behind (move_word ∷ [])) f (λ e. field (places.from e) b)
-      (λ from ff. told_by (refusal 4 n (place_behind (move_word ∷ f ∷ []))) (not (is_action a))
+      (λ from ff. told_by (refusal because.BadField n (place_behind (move_word ∷ f ∷ []))) (not (is_action a))
       (λ no. field (places.action ff (not-true (is_action a) no)) (behind (t ∷ g ∷ []) (rw (ew, ef))))
       (λ act. told_number n (place_behind (move_word ∷ f ∷ a ∷ [])) t (λ e. field (places.to ff (not-false (is_action a) act) e) (behind (g ∷ []) (rw (ew, ef))))
       (λ to lt. told_outcome n (place_behind (move_word ∷ f ∷ a ∷ t ∷ [])) (names st.sheet.features) g
       (λ e rest q. byte (places.move {f = f} {a = a} {t = t}) (behind [] (rw (ew, ef))) q)
-      (λ guard rest q. told_if (refusal 9 n (place_behind (move_word ∷ []))) (moved from a to st.sheet.moves) (field places.of_move b)
+      (λ guard rest q. told_if (refusal because.Repeat n (place_behind (move_word ∷ []))) (moved from a to st.sheet.moves) (field places.of_move b)
       (λ new. keeps (no_name ew refl refl))))))))
 
   stop_placed : w ≡ stop_word → Line (stop_line n st (as_two fs))
@@ -129,7 +124,7 @@ module _ (n at : ℕ) (st : State) (l w : List ℕ) (fs : List (List ℕ)) (is :
       told_number n (place_behind (stop_word ∷ [])) q (λ e. field (places.stop e) b)
       (λ state small. told_outcome n (place_behind (stop_word ∷ q ∷ [])) (names st.sheet.features) g
       (λ e rest f. byte (places.BeforeGuard.stop {q = q}) (behind [] (rw (ew, ef))) f)
-      (λ guard rest f. told_if (refusal 9 n (place_behind (stop_word ∷ []))) (stopped state st.sheet.stops) (field places.of_stop b)
+      (λ guard rest f. told_if (refusal because.Repeat n (place_behind (stop_word ∷ []))) (stopped state st.sheet.stops) (field places.of_stop b)
       (λ new. keeps (no_name ew refl refl)))))
 
   kind_placed : Line (by_kind (kind_in st.section w) n at st fs)
@@ -165,8 +160,8 @@ tells_as f (refuses {q = q} h) = refuses (f q h)
 ended_spoken : (ls : List (List ℕ)) (n : ℕ) (st : State) → Tells (Speaks ls) (λ (r : Sheet). Unit {0}) (ended n st)
 unfolding ended
 ended_spoken ls n st =
-    told_if (refusal 3 n 0) (ltb st.section 3) (of_all refl)
-    (λ late. told_if (refusal 10 st.valid_line 0) (none (is_valid st.sheet) (2 ^ length st.sheet.features)) (of_all refl) (λ found. keeps tt))
+    told_if (refusal because.BadLine n 0) (ltb st.section 3) (of_all refl)
+    (λ late. told_if (refusal because.NoValidProduct st.valid_line 0) (none (is_valid st.sheet) (2 ^ length st.sheet.features)) (of_all refl) (λ found. keeps tt))
 
 -- behind the lines above, whose names the state has
 lines_spoken : (ls all above : List (List ℕ)) (n at : ℕ) (st : State) → Sound st → all ≡ above ++ ls → n ≡ length above + 1
@@ -185,19 +180,19 @@ lines_spoken (l ∷ ls) all above n at st sound are here known =
 sheet_spoken : (s : List ℕ) → Tells (Speaks (lines s)) (λ (r : Sheet). Unit {0}) (read_sheet s)
 unfolding read_sheet declared_in names
 sheet_spoken s =
-    told_if (refusal 1 0 0) (ltb 65536 (length s)) (of_all refl)
-    (λ few. told_if (refusal 2 0 0) (not (eqb (last 0 s) 10)) (of_all refl)
+    told_if (refusal because.SheetTooLong 0 0) (ltb 65536 (length s)) (of_all refl)
+    (λ few. told_if (refusal because.NoLastLineEnd 0 0) (not (eqb (last 0 s) 10)) (of_all refl)
     (λ ends. lines_spoken (lines s) (lines s) [] 1 0 nothing nothing_sound refl refl refl))
 
 -- ---- of whole sheets
 
 -- what a refusal says, by its number
 data Said (s : List ℕ) (q : Refusal) : Type 0 where
-  said_field : (q.number ≡ 4) ⊎ (q.number ≡ 9) → FieldThere s q → Said s q
-  said_byte : 5 ≤ q.number → q.number ≤ 7 → ByteThere s q → Said s q
-  said_nowhere : has_place q.number ≡ false → q.place ≡ 0 → Said s q
+  said_field : (number_of q.reason ≡ 4) ⊎ (number_of q.reason ≡ 9) → FieldThere s q → Said s q
+  said_byte : 5 ≤ number_of q.reason → number_of q.reason ≤ 7 → ByteThere s q → Said s q
+  said_nowhere : has_place q.reason ≡ false → q.place ≡ 0 → Said s q
 
-concerned_number : {e : ℕ} {before : List (List ℕ)} {x : List ℕ} → Concerned e before x → (e ≡ 4) ⊎ (e ≡ 9)
+concerned_number : {e : Reason} {before : List (List ℕ)} {x : List ℕ} → Concerned e before x → (number_of e ≡ 4) ⊎ (number_of e ≡ 9)
 concerned_number (places.name h) = inl refl
 concerned_number (places.start h) = inl refl
 concerned_number (places.from h) = inl refl
@@ -241,27 +236,27 @@ module _ (s : List ℕ) {q : Refusal} (e : read_sheet s ≡ refused q) where
   it_says = said s (told_refused (sheet_spoken s) e)
 
   -- 4 and 9: the field concerned begins at the place
-  pub refused_field : (q.number ≡ 4) ⊎ (q.number ≡ 9) → FieldThere s q
+  pub refused_field : (number_of q.reason ≡ 4) ⊎ (number_of q.reason ≡ 9) → FieldThere s q
   refused_field h = go it_says
     where
       go : Said s q → FieldThere s q
       go (said_field k f) = f
       go (said_byte l m f) = absurd (⊎_elim (λ z. omega arith) (λ z. omega arith) h)
-      go (said_nowhere z p) = absurd (⊎_elim (λ k. false≢true (sym z ∙ ap has_place k)) (λ k. false≢true (sym z ∙ ap has_place k)) h)
+      go (said_nowhere z p) = absurd (⊎_elim (λ k. false≢true (sym z ∙ rw k)) (λ k. false≢true (sym z ∙ rw k)) h)
 
   -- 5 to 7: the leftmost faulty byte of a field stands there
-  pub refused_byte : 5 ≤ q.number → q.number ≤ 7 → ByteThere s q
+  pub refused_byte : 5 ≤ number_of q.reason → number_of q.reason ≤ 7 → ByteThere s q
   refused_byte l m = go it_says
     where
       go : Said s q → ByteThere s q
       go (said_field k f) = absurd (⊎_elim (λ z. omega arith) (λ z. omega arith) k)
       go (said_byte l m f) = f
       go (said_nowhere z p) =
-          let t : has_place q.number ≡ true = rw (ne_eqb q.number 4 (λ k. omega arith), ne_eqb q.number 9 (λ k. omega arith), le-leb 5 q.number l, le-leb q.number 7 m) in
+          let t : has_place q.reason ≡ true = rw (ne_eqb (number_of q.reason) 4 (λ k. omega arith), ne_eqb (number_of q.reason) 9 (λ k. omega arith), le-leb 5 (number_of q.reason) l, le-leb (number_of q.reason) 7 m) in
           absurd (false≢true (sym z ∙ t))
 
   -- "all others 0"
-  pub refused_nowhere : (q.number ≡ 4 → ⊥) → (q.number ≡ 9 → ⊥) → (5 ≤ q.number → q.number ≤ 7 → ⊥) → q.place ≡ 0
+  pub refused_nowhere : (number_of q.reason ≡ 4 → ⊥) → (number_of q.reason ≡ 9 → ⊥) → (5 ≤ number_of q.reason → number_of q.reason ≤ 7 → ⊥) → q.place ≡ 0
   refused_nowhere four nine between = go it_says
     where
       go : Said s q → q.place ≡ 0
@@ -312,5 +307,5 @@ line_to s l = to_this (length s) l.above l.line l.below (rw l.are at (lines_to s
 pub refused_place : (s : List ℕ) {q : Refusal} → read_sheet s ≡ refused q → q.place ≤ 65537
 refused_place s {q} e =
     ⊎_elim (λ (short : length s - 65536 ≡ 0). ⊎_elim (λ z. omega arith) (λ h. omega (arith, h.1, line_to s h.0)) (refused_there s e))
-    (λ long. let f = read_long s (omega arith) in let z : refusal 1 0 0 ≡ q = cc in omega (arith, ap (λ (p : Refusal). p.place) z))
+    (λ long. let f = read_long s (omega arith) in let z : refusal because.SheetTooLong 0 0 ≡ q = cc in omega (arith, ap (λ (p : Refusal). p.place) z))
     (eq-zero-or-pos (length s - 65536))

@@ -1,13 +1,10 @@
 -- The text of an accepted sheet is read, and what is read says the same: only the lines' numbers and the places of names are the text's own.
 -- The rows of the text are read one by one, and after each the state says what the rows so far say. Assumes nothing.
-use mathlib.Core.Path.{◌≡◌, refl, sym, ap, subst, ◌∙◌}
-use mathlib.Core.Bool.{true}
+use Rattle.std.proofs.Common.{◌≡◌, refl, sym, ap, subst, ◌∙◌, true, List, [], ◌∷◌, ◌++◌, map, ℕ, ◌+◌, ◌≤◌, arith, length}
 use mathlib.Core.List.Memᴰ
-use mathlib.Core.List.{List, [], ◌∷◌, ◌++◌, map, Memᴰ}
-use Prim.Native.Nat.{ℕ, ◌+◌, ◌≤◌}
-use native.Mathlib.Omega.{arith}
+use mathlib.Core.List.{Memᴰ}
 use borrow.Author.Tests.{le-ltb}
-use lib.ListN.{length, length-map}
+use lib.ListN.{length-map}
 use Rattle.fields.specs.Cutting.{lines, join, close, Clear, AllClear}
 use Rattle.fields.proofs.Cuts.{lines_closed}
 use Rattle.guards.specs.Guard.{Guard, never}

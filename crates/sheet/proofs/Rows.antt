@@ -1,16 +1,10 @@
 -- Rows and tables, whatever they hold: one row more, one row less, the row of an element. The relation of a row is a variable throughout, so that
 -- each law serves every table. Assumes nothing.
-use mathlib.Core.Path.{◌≡◌, refl, sym, ap, ap₂, ◌∙◌}
-use mathlib.Core.Logic.{⊎_elim}
+use Rattle.std.proofs.Common.{◌≡◌, refl, sym, ap, ap₂, ◌∙◌, ⊎_elim, List, [], ◌∷◌, ◌++◌, ℕ, suc, ◌+◌, ◌-◌, ◌<◌, eq-or-lt_of_le, add-one, arith, length, get_or, set, replicate, length-set, get_or-set_same, get_or-set_other}
 use mathlib.Core.List.Memᴰ
-use mathlib.Core.List.{List, [], ◌∷◌, ◌++◌, Memᴰ}
-use Prim.Native.Nat.{ℕ, suc, ◌+◌, ◌-◌, ◌≤◌, ◌<◌}
-use native.Mathlib.Nat.{eq-or-lt_of_le}
-use native.Mathlib.Numerals.{add-one}
-use native.Mathlib.Omega.{arith}
+use mathlib.Core.List.{Memᴰ}
 use borrow.Author.Tests.{le-leb}
-use lib.ListN.{length, get_or, set, replicate, length-set, length-replicate, get_or-replicate}
-use lib.Seq.{get_or-set_same, get_or-set_other, ext_get_or}
+use lib.ListN.{length-replicate, get_or-replicate}
 use Rattle.fields.specs.Bytes.{piece_of}
 use Rattle.guards.specs.Reading.{names_of}
 use Rattle.sheet.specs.Sheet.{Feature, names}
@@ -72,30 +66,9 @@ module _ {A : Type 0} {R : List ℕ → A → Type 0} {blank : List ℕ} where
         rest = λ i l m. rw (get_or-set_other t k i row [] (omega arith)) (h.rest i (omega arith) (omega arith));
       }
 
--- the first i rows have been made blank
-pub record Cleared (blank : List ℕ) (t u : List (List ℕ)) (i : ℕ) : Type 0 where
-  pub long : length u ≡ length t
-  pub is : (k : ℕ) → k < i → get_or u k [] ≡ blank
-
-module _ {blank : List ℕ} where
-  pub cleared_none : (t : List (List ℕ)) → Cleared blank t t 0
-  cleared_none t = record { long = refl; is = λ k h. absurd (omega arith) }
-
-  module _ {t u : List (List ℕ)} {i : ℕ} (h : Cleared blank t u i) where
-    pub cleared_more : i < length u → Cleared blank t (set u i blank) (i + 1)
-    cleared_more l =
-        record {
-          long = length-set u i blank ∙ h.long;
-          is = λ k m.
-              ⊎_elim (λ (e : k ≡ i). rw e (get_or-set_same u i blank [] l))
-              (λ (f : k < i). get_or-set_other u i k blank [] (omega arith) ∙ h.is k f)
-              (eq-or-lt_of_le (omega arith));
-        }
-
-    pub cleared_all : length u ≤ i → u ≡ replicate (length u) blank
-    cleared_all l =
-        let e : length (replicate (length u) blank) ≡ length u = length-replicate (length u) blank in
-        ext_get_or [] u (replicate (length u) blank) (sym e) (λ k m. h.is k (omega arith) ∙ sym (get_or-replicate (length u) k blank [] m))
+-- a table that was filled throughout, by its own length
+pub table_filled : (t u : List (List ℕ)) (blank : List ℕ) → length u ≡ length t → u ≡ replicate (length t) blank → u ≡ replicate (length u) blank
+table_filled t u blank e f = rw e f
 
 -- ---- what lies in the sheet, by its place and the place behind it
 

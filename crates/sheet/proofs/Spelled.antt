@@ -1,13 +1,8 @@
 -- A sheet that is kept was spelled exactly as its text: each line that is kept is the row of what it adds. So a text is read as a sheet only if it
 -- is that sheet's text. Assumes nothing.
-use mathlib.Core.Path.{◌≡◌, refl, sym, ap, ◌∙◌}
-use mathlib.Core.Bool.{not}
-use mathlib.Core.List.{List, [], ◌∷◌, ◌++◌}
-use Prim.Native.Nat.{ℕ, zero, suc, ◌+◌, ◌^◌, ◌≤◌}
-use native.Mathlib.Omega.{arith}
+use Rattle.std.proofs.Common.{◌≡◌, refl, sym, ap, ◌∙◌, not, List, [], ◌∷◌, ◌++◌, ℕ, zero, suc, ◌+◌, ◌^◌, ◌≤◌, arith, eqb, leb, ltb, length}
 use borrow.Author.Tests.{eqb-true, ltb-false, not-false}
-use lib.Dec.{eqb, leb, ltb}
-use lib.ListN.{length}
+use Rattle.refusals.specs.declared.Reason.TheVariants as because
 use Rattle.refusals.specs.Refusal.{refusal}
 use Rattle.fields.specs.Bytes.{same_bytes, is_name, is_action}
 use Rattle.fields.specs.Cutting.{lines, fields, join, close, One, only, not_one, Two, two, not_two, Four, four, not_four, as_one, as_two, as_four}
@@ -87,7 +82,7 @@ module _ (n at : ℕ) (st : State) (old : Ordered st) (l w : List ℕ) (fs : Fie
   unfolding fts_line in_order
   fts_follows e ew =
       by_one (λ o. Told (Follows st l) (fts_line n st o)) fs (refuses refl)
-      (λ x ef. told_if (refusal 3 n 0) (not (same_bytes x edition_word)) refl
+      (λ x ef. told_if (refusal because.BadLine n 0) (not (same_bytes x edition_word)) refl
       (λ t. keeps (record {
         row = fts_fields;
         is = is ∙ rw (ew, ef, same_true x edition_word (not-false (same_bytes x edition_word) t));
@@ -99,9 +94,9 @@ module _ (n at : ℕ) (st : State) (old : Ordered st) (l w : List ℕ) (fs : Fie
   unfolding feature_line in_order
   feature_follows e ew =
       by_one (λ o. Told (Follows st l) (feature_line n at st o)) fs (refuses refl)
-      (λ x ef. told_if (refusal 8 n 0) (leb 10 (length st.sheet.features)) refl
-      (λ few. told_if (refusal 4 n (place_behind (feature_word ∷ []))) (not (is_name x)) refl
-      (λ good. told_if (refusal 9 n (place_behind (feature_word ∷ []))) (is_known (number (names st.sheet.features) x)) refl
+      (λ x ef. told_if (refusal because.TooManyLines n 0) (leb 10 (length st.sheet.features)) refl
+      (λ few. told_if (refusal because.BadField n (place_behind (feature_word ∷ []))) (not (is_name x)) refl
+      (λ good. told_if (refusal because.Repeat n (place_behind (feature_word ∷ []))) (is_known (number (names st.sheet.features) x)) refl
       (λ new. keeps (record {
         row = feature_fields x;
         is = is ∙ rw (ew, ef);
@@ -137,12 +132,12 @@ module _ (n at : ℕ) (st : State) (old : Ordered st) (l w : List ℕ) (fs : Fie
   unfolding move_line guarded_move in_order
   move_follows e ew =
       by_four (λ o. Told (Follows st l) (move_line n at st o)) fs (refuses refl)
-      (λ f a t g ef. told_if (refusal 8 n 0) (leb 256 (length st.sheet.moves)) refl
+      (λ f a t g ef. told_if (refusal because.TooManyLines n 0) (leb 256 (length st.sheet.moves)) refl
       (λ few. told_state n (place_behind (move_word ∷ [])) f
-      (λ from lf ff. told_if (refusal 4 n (place_behind (move_word ∷ f ∷ []))) (not (is_action a)) refl
+      (λ from lf ff. told_if (refusal because.BadField n (place_behind (move_word ∷ f ∷ []))) (not (is_action a)) refl
       (λ act. told_state n (place_behind (move_word ∷ f ∷ a ∷ [])) t
       (λ to lt et. told_guard n (place_behind (move_word ∷ f ∷ a ∷ t ∷ [])) st.sheet.features g
-      (λ guard good eg. told_if (refusal 9 n (place_behind (move_word ∷ []))) (moved from a to st.sheet.moves) refl
+      (λ guard good eg. told_if (refusal because.Repeat n (place_behind (move_word ∷ []))) (moved from a to st.sheet.moves) refl
       (λ new. keeps (record {
         row = move_fields (names st.sheet.features) from a to guard;
         is = is ∙ rw (ew, ef, ff, et, eg);
@@ -156,7 +151,7 @@ module _ (n at : ℕ) (st : State) (old : Ordered st) (l w : List ℕ) (fs : Fie
       by_two (λ o. Told (Follows st l) (stop_line n st o)) fs (refuses refl)
       (λ q g ef. told_state n (place_behind (stop_word ∷ [])) q
       (λ state small es. told_guard n (place_behind (stop_word ∷ q ∷ [])) st.sheet.features g
-      (λ guard good eg. told_if (refusal 9 n (place_behind (stop_word ∷ []))) (stopped state st.sheet.stops) refl
+      (λ guard good eg. told_if (refusal because.Repeat n (place_behind (stop_word ∷ []))) (stopped state st.sheet.stops) refl
       (λ new. keeps (record {
         row = stop_fields (names st.sheet.features) state guard;
         is = is ∙ rw (ew, ef, es, eg);
@@ -192,8 +187,8 @@ told_keep f (refuses h) = refuses h
 rest_lines : (ls : List (List ℕ)) (n at : ℕ) (st : State) → Ordered st → Told (Rest st ls) (read_lines n at st ls)
 unfolding read_lines read_line ended joined
 rest_lines [] n at st old =
-    told_if (refusal 3 n 0) (ltb st.section 3) refl
-    (λ late. told_if (refusal 10 st.valid_line 0) (none (is_valid st.sheet) (2 ^ length st.sheet.features)) refl
+    told_if (refusal because.BadLine n 0) (ltb st.section 3) refl
+    (λ late. told_if (refusal because.NoValidProduct st.valid_line 0) (none (is_valid st.sheet) (2 ^ length st.sheet.features)) refl
     (λ found. keeps (record { rows = []; are = refl; all = rows_late st.section st.sheet [] (ltb-false st.section 3 late) old.stops })))
 rest_lines (l ∷ ls) n at st old =
     told_on (word_follows n at st old l (fields l) (sym (join_fields l)))
@@ -219,8 +214,8 @@ pub record SpelledAs (s : List ℕ) (r : Sheet) : Type 0 where
 sheet_spelled : (s : List ℕ) → Told (SpelledAs s) (read_sheet s)
 unfolding read_sheet text_of
 sheet_spelled s =
-    told_if (refusal 1 0 0) (ltb 65536 (length s)) refl
-    (λ few. told_if (refusal 2 0 0) (not (eqb (last 0 s) 10)) refl
+    told_if (refusal because.SheetTooLong 0 0) (ltb 65536 (length s)) refl
+    (λ few. told_if (refusal because.NoLastLineEnd 0 0) (not (eqb (last 0 s) 10)) refl
     (λ ends. let ten = eqb-true (last 0 s) 10 (not-false (eqb (last 0 s) 10) ends) in
     told_keep
     (λ r t. record { is = sym (closed s ten) ∙ ap close t.are ∙ ap (λ (rows : List Fields). close (joined rows)) t.all; short = ltb-false 65536 (length s) few })

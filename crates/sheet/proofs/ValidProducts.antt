@@ -1,14 +1,8 @@
 -- Which products of a sheet pass a test, in the manner of `ended`: it counts down through the products of the features and finds one that passes
 -- or none. A valid product is below that count by its own meaning. Assumes nothing.
-use mathlib.Core.Path.{◌≡◌, refl, sym, ap, ◌∙◌}
-use mathlib.Core.Bool.{Bool, true, false, not, ◌&&◌, and-false, and-eq-true_iff, false≢true}
-use mathlib.Core.Logic.{⊎_elim}
-use Prim.Native.Nat.{ℕ, zero, suc, ◌^◌, ◌<◌}
-use native.Mathlib.Nat.{eq-or-lt_of_le}
-use native.Mathlib.Omega.{arith}
+use Rattle.std.proofs.Common.{◌≡◌, refl, sym, ap, ◌∙◌, Bool, true, false, not, ◌&&◌, ⊎_elim, ℕ, zero, suc, ◌^◌, ◌<◌, eq-or-lt_of_le, arith, ltb, length}
+use mathlib.Core.Bool.{and-false, and-eq-true_iff, false≢true}
 use borrow.Author.Tests.{ltb-true}
-use lib.Dec.{ltb}
-use lib.ListN.{length}
 use Rattle.guards.specs.Guard.{holds}
 use Rattle.sheet.specs.Sheet.{Sheet, is_valid}
 use Rattle.sheet.specs.Reading.{none}

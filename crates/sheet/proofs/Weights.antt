@@ -1,13 +1,8 @@
 -- A move line has at least 13 bytes and a stop line at least 9, the line end counted: so the lines so far have at least 13 bytes for each move
 -- and 9 for each stop. Assumes nothing.
-use mathlib.Core.Path.{◌≡◌, refl, ap}
-use mathlib.Core.Bool.{Bool, true, false, not}
-use mathlib.Core.List.{List, [], ◌∷◌}
-use Prim.Native.Nat.{ℕ, suc, ◌+◌, ◌*◌, ◌≤◌}
-use native.Mathlib.Omega.{arith}
+use Rattle.std.proofs.Common.{◌≡◌, refl, ap, Bool, true, false, not, List, [], ◌∷◌, ℕ, suc, ◌+◌, ◌*◌, ◌≤◌, arith, eqb, leb, length}
 use borrow.Author.Tests.{not-false}
-use lib.Dec.{eqb, leb}
-use lib.ListN.{length}
+use Rattle.refusals.specs.declared.Reason.TheVariants as because
 use Rattle.refusals.specs.Refusal.{refusal}
 use Rattle.fields.specs.Bytes.{same_bytes, is_name, is_action, read_state}
 use Rattle.fields.specs.Cutting.{onto, cut, fields, One, only, not_one, as_one, as_two, as_four}
@@ -61,15 +56,15 @@ module _ (n at : ℕ) (st : State) (k : ℕ) where
   fts_weighs : (x : One) → Told (Weighs (weight st.sheet + k)) (fts_line n st x)
   unfolding fts_line
   fts_weighs not_one = refuses refl
-  fts_weighs (only x) = told_if (refusal 3 n 0) (not (same_bytes x edition_word)) refl (λ t. keeps (record { is = omega arith }))
+  fts_weighs (only x) = told_if (refusal because.BadLine n 0) (not (same_bytes x edition_word)) refl (λ t. keeps (record { is = omega arith }))
 
   feature_weighs : (x : One) → Told (Weighs (weight st.sheet + k)) (feature_line n at st x)
   unfolding feature_line
   feature_weighs not_one = refuses refl
   feature_weighs (only x) =
-      told_if (refusal 8 n 0) (leb 10 (length st.sheet.features)) refl
-      (λ few. told_if (refusal 4 n (place_behind (feature_word ∷ []))) (not (is_name x)) refl
-      (λ good. told_if (refusal 9 n (place_behind (feature_word ∷ []))) (is_known (number (names st.sheet.features) x)) refl (λ new. keeps (record { is = omega arith }))))
+      told_if (refusal because.TooManyLines n 0) (leb 10 (length st.sheet.features)) refl
+      (λ few. told_if (refusal because.BadField n (place_behind (feature_word ∷ []))) (not (is_name x)) refl
+      (λ good. told_if (refusal because.Repeat n (place_behind (feature_word ∷ []))) (is_known (number (names st.sheet.features) x)) refl (λ new. keeps (record { is = omega arith }))))
 
   valid_weighs : (x : One) → Told (Weighs (weight st.sheet + k)) (valid_line n st x)
   unfolding valid_line
@@ -88,12 +83,12 @@ module _ (n at : ℕ) (st : State) (k : ℕ) where
   move_weighs (f ∷ a ∷ []) h = refuses refl
   move_weighs (f ∷ a ∷ t ∷ []) h = refuses refl
   move_weighs (f ∷ a ∷ t ∷ g ∷ []) h =
-      told_if (refusal 8 n 0) (leb 256 (length st.sheet.moves)) refl
+      told_if (refusal because.TooManyLines n 0) (leb 256 (length st.sheet.moves)) refl
       (λ few. some_state n (place_behind (move_word ∷ [])) f
-      (λ from lf. told_if (refusal 4 n (place_behind (move_word ∷ f ∷ []))) (not (is_action a)) refl
+      (λ from lf. told_if (refusal because.BadField n (place_behind (move_word ∷ f ∷ []))) (not (is_action a)) refl
       (λ act. let la = (action_names a (not-false (is_action a) act)).1 in some_state n (place_behind (move_word ∷ f ∷ a ∷ [])) t
       (λ to lt. some_guard n (place_behind (move_word ∷ f ∷ a ∷ t ∷ [])) st.sheet.features g
-      (λ guard lg. told_if (refusal 9 n (place_behind (move_word ∷ []))) (moved from a to st.sheet.moves) refl (λ new. keeps (record { is = omega arith })))))))
+      (λ guard lg. told_if (refusal because.Repeat n (place_behind (move_word ∷ []))) (moved from a to st.sheet.moves) refl (λ new. keeps (record { is = omega arith })))))))
   move_weighs (f ∷ a ∷ t ∷ g ∷ x ∷ fs) h = refuses refl
 
   stop_weighs : (fs : List (List ℕ)) → 5 + size fs ≤ k → Told (Weighs (weight st.sheet + k)) (stop_line n st (as_two fs))
@@ -103,7 +98,7 @@ module _ (n at : ℕ) (st : State) (k : ℕ) where
   stop_weighs (q ∷ g ∷ []) h =
       some_state n (place_behind (stop_word ∷ [])) q
       (λ state lq. some_guard n (place_behind (stop_word ∷ q ∷ [])) st.sheet.features g
-      (λ guard lg. told_if (refusal 9 n (place_behind (stop_word ∷ []))) (stopped state st.sheet.stops) refl (λ new. keeps (record { is = omega arith }))))
+      (λ guard lg. told_if (refusal because.Repeat n (place_behind (stop_word ∷ []))) (stopped state st.sheet.stops) refl (λ new. keeps (record { is = omega arith }))))
   stop_weighs (q ∷ g ∷ x ∷ fs) h = refuses refl
 
   kind_weighs : (w : List ℕ) (fs : List (List ℕ)) → suc (length w + size fs) ≤ k → Told (Weighs (weight st.sheet + k)) (by_kind (kind_in st.section w) n at st fs)

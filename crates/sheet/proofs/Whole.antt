@@ -1,16 +1,11 @@
 -- A line by its word, the end of the sheet, and the loop over the lines: what is left to read, after the lines so far, is what the whole sheet
 -- reads as. Assumes nothing.
-use mathlib.Core.Path.{◌≡◌, refl, sym, ap, subst, ◌∙◌}
-use mathlib.Core.Bool.{Bool, true, false, ◌&&◌}
-use mathlib.Core.List.{List, [], ◌∷◌}
-use Prim.Native.Nat.{ℕ, suc, ◌+◌, ◌-◌, ◌*◌, ◌^◌, ◌≤◌, ◌<◌, min}
-use native.Mathlib.Omega.{arith}
+use Rattle.std.proofs.Common.{Result, Ok, Err, is_err, ◌≡◌, refl, sym, ap, subst, ◌∙◌, Bool, true, false, true≢false, ◌&&◌, ◌⊎◌, ⊎_elim, List, [], ◌∷◌, ℕ, suc, ◌+◌, ◌-◌, ◌*◌, ◌^◌, ◌≤◌, ◌<◌, min, ltb, length, get_or, drop, replicate, arith, pow_mono}
 use borrow.Author.Tests.{eq-eqb, ne_eqb, lt-ltb, le-ltb}
-use lib.Dec.{ltb}
-use lib.ListN.{length, get_or, drop, replicate, length-replicate}
-use lib.Pow.{pow_mono}
+use lib.ListN.{length-replicate}
 use Rattle.products.specs.Sets.{has, one_if, In}
 use Rattle.products.proofs.Laws.{empty_has, one_true}
+use Rattle.refusals.specs.declared.Reason.TheVariants as because
 use Rattle.refusals.specs.declared.Refusal.{Refusal}
 use Rattle.refusals.specs.Refusal.{refusal}
 use Rattle.fields.specs.Bytes.{part, FirstAt}
@@ -22,14 +17,12 @@ use Rattle.sheet.specs.declared.Counts.{Counts}
 use Rattle.sheet.specs.declared.Progress.{Progress}
 use Rattle.sheet.specs.declared.LineKind.{LineKind}
 use Rattle.sheet.specs.declared.LineKind.TheVariants.{Fts, Feature, Valid, Start, Move, Stop, Misplaced}
-use Rattle.sheet.specs.declared.LineRead.{LineRead}
-use Rattle.sheet.specs.declared.LineRead.TheVariants as line
-use Rattle.sheet.specs.declared.SheetRead.{SheetRead}
-use Rattle.sheet.specs.declared.SheetRead.TheVariants as whole
+use Rattle.sheet.specs.declared.Section.{Section}
+use Rattle.sheet.specs.declared.Section.TheVariants.{BeforeFts, AmongFeatures, BehindValid, BehindStart, BehindStop}
 use Rattle.sheet.specs.Sheet.{Sheet, is_valid}
 use Rattle.sheet.specs.Reading.{State, Answer, refused, go_on, kind_in, by_kind, by_word, fts_line, feature_line, valid_line, start_line, move_line, stop_line, read_line, ended, read_lines, nothing, last, read_sheet}
 use Rattle.sheet.specs.Tables.{Tables, tables, blank_tables, Lies, Sized, ReadsSheet}
-use Rattle.sheet.specs.Inside.{Stands, Says, SaysIn, Ends, EndsIn}
+use Rattle.sheet.specs.Inside.{number_of, Stands, Says, SaysIn, Ends}
 use Rattle.sheet.proofs.Rows.{rows_length, table_blank}
 use Rattle.sheet.proofs.Marks.{marked_none}
 use Rattle.sheet.proofs.ValidProducts.{none_true, valid_found}
@@ -40,7 +33,7 @@ use Rattle.sheet.proofs.Weights.{line_weighs}
 -- ---- a line by its word
 
 -- no kind of line has one field only
-alone : (k : LineKind) (n at : ℕ) (st : State) → by_kind k n at st [] ≡ refused (refusal 3 n 0)
+alone : (k : LineKind) (n at : ℕ) (st : State) → by_kind k n at st [] ≡ refused (refusal because.BadLine n 0)
 unfolding fts_line feature_line valid_line start_line move_line stop_line
 alone Fts n at st = refl
 alone Feature n at st = refl
@@ -51,7 +44,7 @@ alone Stop n at st = refl
 alone Misplaced n at st = refl
 
 module _ (l : List ℕ) {w : ℕ} (h : FirstAt l 9 0 w) (n at : ℕ) (st : State) where
-  pub line_alone : length l ≤ w → read_line n at st l ≡ refused (refusal 3 n 0)
+  pub line_alone : length l ≤ w → read_line n at st l ≡ refused (refusal because.BadLine n 0)
   unfolding read_line
   line_alone e = ap (by_word n at st) (cut_last h e) ∙ alone (kind_in st.section l) n (at + length l + 1) st
 
@@ -63,11 +56,11 @@ module _ (l : List ℕ) {w : ℕ} (h : FirstAt l 9 0 w) (n at : ℕ) (st : State
       let y : kind_in st.section (part l 0 w) ≡ k = ap (λ (x : ℕ). kind_in x (part l 0 w)) (sym s) ∙ sym d in
       ap (by_word n at st) (cut_more h ([] ∷ []) e) ∙ rw (z, y, part_rest l (w + 1))
 
-pub says_as : {s : List ℕ} {T : Tables} {seen : List ℕ} {r : LineRead} {a b : Answer State} → a ≡ b → Says s T seen r b → Says s T seen r a
+pub says_as : {s : List ℕ} {T : Tables} {seen : List ℕ} {r : Result Progress Refusal} {a b : Answer State} → a ≡ b → Says s T seen r b → Says s T seen r a
 says_as e h = rw e h
 
 -- the line by its kind, once the kind is known
-pub line_of : (l : List ℕ) {w : ℕ} (h : FirstAt l 9 0 w) (n at : ℕ) (st : State) {k m : LineKind} {q : ℕ} {s : List ℕ} {T : Tables} {seen : List ℕ} {r : LineRead}
+pub line_of : (l : List ℕ) {w : ℕ} (h : FirstAt l 9 0 w) (n at : ℕ) (st : State) {k m : LineKind} {q : ℕ} {s : List ℕ} {T : Tables} {seen : List ℕ} {r : Result Progress Refusal}
     → w < length l → q ≡ st.section → k ≡ kind_in q (part l 0 w) → k ≡ m
     → Says s T seen r (by_kind m n (at + w + 1) st (fields (part l (w + 1) (length l)))) → Says s T seen r (read_line n at st l)
 line_of l {w} h n at st e s d f g =
@@ -98,13 +91,24 @@ one_false : (b : Bool) → (one_if b ≡ 1 → ⊥) → b ≡ false
 one_false true f = absurd (f refl)
 one_false false f = refl
 
+-- whether the start line has come
+pub early : {k : Section} → (k ≡ BehindStart → ⊥) → (k ≡ BehindStop → ⊥) → number_of k < 3
+early {k = BeforeFts} f g = omega arith
+early {k = AmongFeatures} f g = omega arith
+early {k = BehindValid} f g = omega arith
+early {k = BehindStart} f g = absurd (f refl)
+early {k = BehindStop} f g = absurd (g refl)
+
+pub late : {k : Section} → (k ≡ BehindStart) ⊎ (k ≡ BehindStop) → 3 ≤ number_of k
+late h = ⊎_elim (λ e. rw e (omega arith)) (λ e. rw e (omega arith)) h
+
 module _ {s : List ℕ} {nm : List (List ℕ)} {v : List ℕ} {m g t d : List (List ℕ)} {seen : List ℕ} {c : Progress} {st : State}
     (so : Stands s (tables nm v m g t d) seen c st) (n : ℕ) where
-  pub lacking : {T : Tables} {r : SheetRead} → c.section < 3 → r ≡ whole.Refused (refusal 3 n 0) → Ends s T r (ended n st)
+  pub lacking : {T : Tables} {r : Result Counts Refusal} → number_of c.section < 3 → r ≡ Err (refusal because.BadLine n 0) → Ends s T r (ended n st)
   unfolding ended
   lacking l z = let e = so.section in record { is = rw z (rw (lt-ltb st.section 3 (omega arith))) }
 
-  module _ (l : 3 ≤ c.section) (x y : List ℕ) (both : (p : ℕ) → p < 1024 → has y p ≡ min (has v p) (has x p))
+  module _ (l : 3 ≤ number_of c.section) (x y : List ℕ) (both : (p : ℕ) → p < 1024 → has y p ≡ min (has v p) (has x p))
       (all : (p : ℕ) → p < 1024 → has x p ≡ one_if (ltb p (2 ^ c.features))) where
     come : ltb st.section 3 ≡ false
     come = let e = so.section in le-ltb st.section 3 (omega arith)
@@ -122,7 +126,7 @@ module _ {s : List ℕ} {nm : List (List ℕ)} {v : List ℕ} {m g t d : List (L
         let k : 2 ^ length st.sheet.features ≤ 2 ^ 10 = pow_mono {j = 10} (omega arith) in
         omega arith
 
-    pub no_product : {T : Tables} {r : SheetRead} → ((q : ℕ) → In y q → ⊥) → r ≡ whole.Refused (refusal 10 c.valid 0) → Ends s T r (ended n st)
+    pub no_product : {T : Tables} {r : Result Counts Refusal} → ((q : ℕ) → In y q → ⊥) → r ≡ Err (refusal because.NoValidProduct c.valid 0) → Ends s T r (ended n st)
     unfolding ended
     no_product k z =
         let i : (p : ℕ) → p < 2 ^ length st.sheet.features → is_valid st.sheet p ≡ false =
@@ -130,7 +134,7 @@ module _ {s : List ℕ} {nm : List (List ℕ)} {v : List ℕ} {m g t d : List (L
         record { is = rw (z, so.valid_line) (rw (come, none_true (is_valid st.sheet) (2 ^ length st.sheet.features) i)) }
 
     pub finished : (q : ℕ) × In y q
-        → Ends s (tables nm y m g t d) (whole.Kept (record { features = c.features; start = c.start; moves = c.moves; stops = c.stops })) (ended n st)
+        → Ends s (tables nm y m g t d) (Ok (record { features = c.features; start = c.start; moves = c.moves; stops = c.stops })) (ended n st)
     unfolding ended
     finished (q, k) =
         let i : is_valid st.sheet q ≡ true = one_true (is_valid st.sheet q) (sym (allowed q k.small) ∙ k.is) in
@@ -162,8 +166,11 @@ pub record Going (s : List ℕ) (T : Tables) (seen : List ℕ) (c : Progress) (n
 abbrev pub Blank : Tables → Type 0
 Blank T = T ≡ blank_tables (length T.moves) (length T.move_guards) (length T.stops) (length T.stop_guards)
 
+abbrev nothing_read : Progress
+nothing_read = record { section = BeforeFts; valid = 0; features = 0; start = 0; moves = 0; stops = 0 }
+
 going_from : {s : List ℕ} {T : Tables} (m g t h : ℕ) → T ≡ blank_tables m g t h → get_or s (length s - 1) 0 ≡ 10
-    → Going s T (replicate 128 0) (record { section = 0; valid = 0; features = 0; start = 0; moves = 0; stops = 0 }) 1 0
+    → Going s T (replicate 128 0) nothing_read 1 0
 unfolding Means holds
 going_from m g t h b e =
     rw b
@@ -187,9 +194,14 @@ going_from m g t h b e =
       light = omega arith;
     })
 
-pub going_start : {s : List ℕ} {T : Tables} → Blank T → get_or s (length s - 1) 0 ≡ 10
-    → Going s T (replicate 128 0) (record { section = 0; valid = 0; features = 0; start = 0; moves = 0; stops = 0 }) 1 0
-going_start {T = T} b e = going_from (length T.moves) (length T.move_guards) (length T.stops) (length T.stop_guards) b e
+nothing_is : (c : Progress) → (c.section ≡ BeforeFts) × ((c.valid ≡ 0) × ((c.features ≡ 0) × ((c.start ≡ 0) × ((c.moves ≡ 0) × (c.stops ≡ 0))))) → c ≡ nothing_read
+nothing_is c e i =
+    record { section = e.0 i; valid = e.1.0 i; features = e.1.1.0 i; start = e.1.1.1.0 i; moves = e.1.1.1.1.0 i; stops = e.1.1.1.1.1 i }
+
+pub going_start : {s : List ℕ} {T : Tables} (c : Progress)
+    → (c.section ≡ BeforeFts) × ((c.valid ≡ 0) × ((c.features ≡ 0) × ((c.start ≡ 0) × ((c.moves ≡ 0) × (c.stops ≡ 0))))) → Blank T → get_or s (length s - 1) 0 ≡ 10
+    → Going s T (replicate 128 0) c 1 0
+going_start {T = T} c none b e = rw (nothing_is c none) (going_from (length T.moves) (length T.move_guards) (length T.stops) (length T.stop_guards) b e)
 
 module _ {s : List ℕ} {T : Tables} {seen : List ℕ} {c : Progress} {n at : ℕ} (go : Going s T seen c n at) where
   module _ (l : at < length s) {e : ℕ} (h : FirstAt s 10 at e) where
@@ -203,15 +215,15 @@ module _ {s : List ℕ} {T : Tables} {seen : List ℕ} {c : Progress} {n at : �
         let y : at + length (part s at e) + 1 ≡ e + 1 = omega (arith, part_length s at e (omega arith)) in
         go.left ∙ ap (read_lines n at go.state) (lines_more h z.1) ∙ rw y
 
-    module _ {T' : Tables} {seen' : List ℕ} {r : LineRead}
+    module _ {T' : Tables} {seen' : List ℕ} {r : Result Progress Refusal}
         (read : (st : State) → Stands s T seen c st → Says s T' seen' r (read_line n at st (part s at e))) where
-      said : {q : LineRead} → r ≡ q → SaysIn s T' seen' q (read_line n at go.state (part s at e))
-      said q = subst (λ (x : LineRead). SaysIn s T' seen' x (read_line n at go.state (part s at e))) q (read go.state go.stands).is
+      said : {q : Result Progress Refusal} → r ≡ q → SaysIn s T' seen' q (read_line n at go.state (part s at e))
+      said q = subst (λ (x : Result Progress Refusal). SaysIn s T' seen' x (read_line n at go.state (part s at e))) q (read go.state go.stands).is
 
-      pub going_refused : {T'' : Tables} {a : SheetRead} {x : Refusal} → r ≡ line.Refused x → a ≡ whole.Refused x → Ends s T'' a (from_top s)
+      pub going_refused : {T'' : Tables} {a : Result Counts Refusal} {x : Refusal} → r ≡ Err x → a ≡ Err x → Ends s T'' a (from_top s)
       going_refused q z = record { is = rw z (turn ∙ rw (said q)) }
 
-      pub going_on : {d : Progress} → r ≡ line.Kept d → Going s T' seen' d (n + 1) (e + 1)
+      pub going_on : {d : Progress} → r ≡ Ok d → Going s T' seen' d (n + 1) (e + 1)
       going_on q =
           let y = said q in
           let z = line_ends in
@@ -225,7 +237,7 @@ module _ {s : List ℕ} {T : Tables} {seen : List ℕ} {c : Progress} {n at : �
           let d = rows_length y.2.filled.stops.rows in
           record { state = y.0; stands = y.2; left = turn ∙ rw y.1; ends = go.ends; within = omega arith; few = omega arith; light = omega arith }
 
-  pub going_done : {T' : Tables} {r : SheetRead} → length s ≤ at → ((st : State) → Stands s T seen c st → Ends s T' r (ended n st)) → Ends s T' r (from_top s)
+  pub going_done : {T' : Tables} {r : Result Counts Refusal} → length s ≤ at → ((st : State) → Stands s T seen c st → Ends s T' r (ended n st)) → Ends s T' r (from_top s)
   unfolding read_lines
   going_done l f = rw (go.left ∙ ap (read_lines n at go.state) (lines_none s at l)) (f go.state go.stands)
 
@@ -243,9 +255,6 @@ last_none : (s : List ℕ) → length s ≡ 0 → last 0 s ≡ 0
 unfolding last
 last_none [] h = refl
 last_none (b ∷ s) h = absurd (omega arith)
-
-ends_as : {s : List ℕ} {T : Tables} {a b : SheetRead} {x : Answer Sheet} → a ≡ b → Ends s T a x → EndsIn s T b x
-ends_as e h = rw e at h.is
 
 pub blank_own : {T : Tables} (m g t h : ℕ) → T ≡ blank_tables m g t h → Blank T
 blank_own m g t h e =
@@ -274,11 +283,11 @@ all_blank p q r u = same_lent p q r u
 
 module _ (s : List ℕ) where
   -- what the length alone refuses
-  pub read_long : 65536 < length s → read_sheet s ≡ refused (refusal 1 0 0)
+  pub read_long : 65536 < length s → read_sheet s ≡ refused (refusal because.SheetTooLong 0 0)
   unfolding read_sheet
   read_long h = rw (lt-ltb 65536 (length s) h)
 
-  pub read_empty : length s ≡ 0 → read_sheet s ≡ refused (refusal 2 0 0)
+  pub read_empty : length s ≡ 0 → read_sheet s ≡ refused (refusal because.NoLastLineEnd 0 0)
   unfolding read_sheet
   read_empty h = rw (le-ltb 65536 (length s) (omega arith), last_none s h)
 
@@ -287,14 +296,14 @@ module _ (s : List ℕ) where
     blank_lent : Blank T → T ≡ blank_tables m g t h
     blank_lent b = b ∙ rw (lent.moves, lent.move_guards, lent.stops, lent.stop_guards)
 
-    pub sheet_long : {r : SheetRead} → Blank T → 65536 < length s → r ≡ whole.Refused (refusal 1 0 0) → ReadsSheet m g t h s T r
+    pub sheet_long : {r : Result Counts Refusal} → Blank T → 65536 < length s → r ≡ Err (refusal because.SheetTooLong 0 0) → ReadsSheet m g t h s T r
     sheet_long b l z = rw z (read_long l, blank_lent b)
 
-    pub sheet_empty : {r : SheetRead} → Blank T → length s ≡ 0 → r ≡ whole.Refused (refusal 2 0 0) → ReadsSheet m g t h s T r
+    pub sheet_empty : {r : Result Counts Refusal} → Blank T → length s ≡ 0 → r ≡ Err (refusal because.NoLastLineEnd 0 0) → ReadsSheet m g t h s T r
     sheet_empty b l z = rw z (read_empty l, blank_lent b)
 
     module _ (l : length s ≤ 65536) (some : length s ≡ 0 → ⊥) where
-      pub sheet_open : {r : SheetRead} → Blank T → (get_or s (length s - 1) 0 ≡ 10 → ⊥) → r ≡ whole.Refused (refusal 2 0 0) → ReadsSheet m g t h s T r
+      pub sheet_open : {r : Result Counts Refusal} → Blank T → (get_or s (length s - 1) 0 ≡ 10 → ⊥) → r ≡ Err (refusal because.NoLastLineEnd 0 0) → ReadsSheet m g t h s T r
       unfolding read_sheet
       sheet_open b e z = rw z (rw (le-ltb 65536 (length s) l, last_at 0 s (omega arith), ne_eqb (get_or s (length s - 1) 0) 10 e), blank_lent b)
 
@@ -303,8 +312,10 @@ module _ (s : List ℕ) where
         unfolding read_sheet
         begins = rw (le-ltb 65536 (length s) l, last_at 0 s (omega arith), eq-eqb (get_or s (length s - 1) 0) 10 e)
 
-        pub sheet_refused : {U : Tables} {r : SheetRead} {q : Refusal} → Ends s U r (from_top s) → r ≡ whole.Refused q → Blank T → ReadsSheet m g t h s T r
-        sheet_refused f z b = rw z (begins ∙ ends_as z f, blank_lent b)
+        pub sheet_refused : {U : Tables} {r : Result Counts Refusal} → Ends s U r (from_top s) → is_err r ≡ true → Blank T → ReadsSheet m g t h s T r
+        sheet_refused {r = Ok c} f z b = absurd (true≢false (sym z))
+        sheet_refused {r = Err q} f z b = (begins ∙ f.is, blank_lent b)
 
-        pub sheet_kept : {r : SheetRead} {c : Counts} → Ends s T r (from_top s) → r ≡ whole.Kept c → ReadsSheet m g t h s T r
-        sheet_kept f z = let y = ends_as z f in rw z ((y.0, begins ∙ y.1, y.2), lent)
+        pub sheet_kept : {r : Result Counts Refusal} → Ends s T r (from_top s) → is_err r ≡ false → ReadsSheet m g t h s T r
+        sheet_kept {r = Ok c} f z = ((f.is.0, begins ∙ f.is.1, f.is.2), lent)
+        sheet_kept {r = Err q} f z = absurd (true≢false z)

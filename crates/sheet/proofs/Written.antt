@@ -1,14 +1,9 @@
 -- A well-made line is kept: the fields of each kind of line, joined and read in their section, give the state with that line. Assumes nothing.
-use mathlib.Core.Path.{◌≡◌, refl, sym, ◌∙◌}
-use mathlib.Core.Bool.{true, false}
-use mathlib.Core.List.{List, [], ◌∷◌, Memᴰ}
-use Prim.Native.Nat.{ℕ, ◌+◌, ◌≤◌, ◌<◌}
-use native.Mathlib.Omega.{arith}
+use Rattle.std.proofs.Common.{None, ◌≡◌, refl, ◌∙◌, true, false, List, [], ◌∷◌, ℕ, ◌+◌, ◌≤◌, ◌<◌, arith, length}
+use mathlib.Core.List.{Memᴰ}
 use borrow.Author.Tests.{ne_eqb, lt-leb}
-use lib.ListN.{length}
 use Rattle.text.specs.Text.{decimal}
 use Rattle.text.proofs.Laws.{decimal_digits}
-use Rattle.products.specs.declared.Found.TheVariants.{Nothing}
 use Rattle.fields.specs.Bytes.{same_bytes, all_name_bytes, is_name, is_action}
 use Rattle.fields.specs.Cutting.{join, Clear, AllClear}
 use Rattle.fields.proofs.Cuts.{fields_joined}
@@ -100,7 +95,7 @@ module _ (n at : ℕ) (st : State) where
   unfolding same_bytes fts_line
   fts_kept e = line_by {k = kind.Fts} fts_word (edition_word ∷ []) (rw e) fts_plain
 
-  pub feature_kept : (x : List ℕ) → st.section ≡ 1 → length st.sheet.features < 10 → is_name x ≡ true → number (names st.sheet.features) x ≡ Nothing
+  pub feature_kept : (x : List ℕ) → st.section ≡ 1 → length st.sheet.features < 10 → is_name x ≡ true → number (names st.sheet.features) x ≡ None
       → read_line n at st (join (feature_fields x)) ≡ keep 1 st.valid_line (with_feature st.sheet (record { name = x; place = at + length feature_word + 1 }))
   unfolding same_bytes feature_line
   feature_kept x e few good new =
@@ -142,6 +137,6 @@ module _ (n at : ℕ) (st : State) where
     unfolding same_bytes stop_line
     stop_kept q l small new =
         line_by {k = kind.Stop} stop_word (decimal q ∷ print g (names st.sheet.features) [] ∷ [])
-        (sym (kind_stop st.section stop_word (λ e. omega arith) (λ e. omega arith) (λ e. omega arith) refl))
+        (kind_stop st.section l)
         (stop_plain st.sheet.features names-good good q)
         ∙ rw (read_written q (omega arith), guard_read st.sheet.features names-good good, new)

@@ -1,8 +1,9 @@
 -- What stands at the place of a refusal, told by the sheet's lines and bytes; the definition of reading (Reading) computes the place. Assumes nothing:
 -- these are definitions.
-use Rattle.std.specs.Prelude.{true, false, cond, List, [], ◌∷◌, ◌++◌, ◌≡◌, ℕ, ◌+◌, length}
+use Rattle.std.specs.Prelude.{true, false, cond, List, [], ◌∷◌, ◌++◌, ◌≡◌, ℕ, ◌+◌, length, Some, None}
+use Rattle.refusals.specs.declared.Reason.{Reason}
+use Rattle.refusals.specs.declared.Reason.TheVariants as because
 use Rattle.refusals.specs.declared.Refusal.{Refusal}
-use Rattle.fields.specs.declared.Number.TheVariants.{Of, Bad}
 use Rattle.fields.specs.Bytes.{same_bytes, is_name, is_action, read_state}
 use Rattle.fields.specs.Cutting.{lines, fields}
 use Rattle.guards.specs.Places.{Leftmost}
@@ -33,23 +34,23 @@ pub record FieldAt (l : List ℕ) (before : List (List ℕ)) (x : List ℕ) (p :
 
 -- "where the field concerned begins, empty or not (for 9 on a move, of its from field)": the number, the fields before that one, and the field itself. Of 4
 -- it is the first bad one, "the fields from the left"; that a line of 9 is a repeat is told by its number
-pub data Concerned : ℕ → List (List ℕ) → List ℕ → Type 0 where
-  name : {x : List ℕ} → is_name x ≡ false → Concerned 4 (feature_word ∷ []) x
-  start : {x : List ℕ} → read_state x ≡ Bad → Concerned 4 (start_word ∷ []) x
-  from : {x : List ℕ} → read_state x ≡ Bad → Concerned 4 (move_word ∷ []) x
-  action : {f x : List ℕ} {q : ℕ} → read_state f ≡ Of q → is_action x ≡ false → Concerned 4 (move_word ∷ f ∷ []) x
-  to : {f a x : List ℕ} {q : ℕ} → read_state f ≡ Of q → is_action a ≡ true → read_state x ≡ Bad → Concerned 4 (move_word ∷ f ∷ a ∷ []) x
-  stop : {x : List ℕ} → read_state x ≡ Bad → Concerned 4 (stop_word ∷ []) x
-  of_feature : {x : List ℕ} → Concerned 9 (feature_word ∷ []) x
-  of_move : {x : List ℕ} → Concerned 9 (move_word ∷ []) x
-  of_stop : {x : List ℕ} → Concerned 9 (stop_word ∷ []) x
+pub data Concerned : Reason → List (List ℕ) → List ℕ → Type 0 where
+  name : {x : List ℕ} → is_name x ≡ false → Concerned because.BadField (feature_word ∷ []) x
+  start : {x : List ℕ} → read_state x ≡ None → Concerned because.BadField (start_word ∷ []) x
+  from : {x : List ℕ} → read_state x ≡ None → Concerned because.BadField (move_word ∷ []) x
+  action : {f x : List ℕ} {q : ℕ} → read_state f ≡ Some q → is_action x ≡ false → Concerned because.BadField (move_word ∷ f ∷ []) x
+  to : {f a x : List ℕ} {q : ℕ} → read_state f ≡ Some q → is_action a ≡ true → read_state x ≡ None → Concerned because.BadField (move_word ∷ f ∷ a ∷ []) x
+  stop : {x : List ℕ} → read_state x ≡ None → Concerned because.BadField (stop_word ∷ []) x
+  of_feature : {x : List ℕ} → Concerned because.Repeat (feature_word ∷ []) x
+  of_move : {x : List ℕ} → Concerned because.Repeat (move_word ∷ []) x
+  of_stop : {x : List ℕ} → Concerned because.Repeat (stop_word ∷ []) x
 
 -- at the refusal's line and place the field concerned begins
 pub record FieldThere (s : List ℕ) (q : Refusal) : Type 0 where
   pub of : LineOf s q.line
   pub before : List (List ℕ)
   pub field : List ℕ
-  pub concerned : Concerned q.number before field
+  pub concerned : Concerned q.reason before field
   pub begins : FieldAt of.line before field q.place
 
 -- ---- 5, 6 and 7
@@ -82,5 +83,5 @@ pub record ByteThere (s : List ℕ) (q : Refusal) : Type 0 where
   pub p : ℕ
   pub begins : FieldAt of.line before guard p
   pub from : List ℕ
-  pub leftmost : Leftmost (declared_in of.above []) guard q.number from
+  pub leftmost : Leftmost (declared_in of.above []) guard q.reason from
   pub there : q.place ≡ p + length leftmost.before

@@ -1,15 +1,12 @@
 -- Reading a sheet: lines, then fields, then meanings, by the table of refusals. Assumes nothing: these are definitions.
-use Rattle.std.specs.Prelude.{Bool, true, false, cond, not, ◌&&◌, ◌||◌, List, [], ◌∷◌, ℕ, zero, suc, ◌+◌, ◌-◌, ◌^◌, eqb, leb, ltb, length}
+use Rattle.std.specs.Prelude.{Bool, true, false, cond, not, ◌&&◌, ◌||◌, List, [], ◌∷◌, ℕ, zero, suc, ◌+◌, ◌-◌, ◌^◌, eqb, leb, ltb, length, Option, Some, None}
+use Rattle.refusals.specs.declared.Reason.TheVariants as because
 use Rattle.refusals.specs.declared.Refusal.{Refusal}
 use Rattle.refusals.specs.Refusal.{refusal}
-use Rattle.fields.specs.declared.Number.{Number}
-use Rattle.fields.specs.declared.Number.TheVariants.{Of, Bad}
 use Rattle.fields.specs.Bytes.{same_bytes, is_name, is_action, read_state}
 use Rattle.fields.specs.Cutting.{lines, fields, One, only, not_one, Two, two, not_two, Four, four, not_four, as_one, as_two, as_four}
 use Rattle.guards.specs.Guard.{Guard, never}
 use Rattle.guards.specs.Reading.{Outcome, took, faulty, number, read_whole}
-use Rattle.products.specs.declared.Found.{Found}
-use Rattle.products.specs.declared.Found.TheVariants.{At, Nothing}
 use Rattle.sheet.specs.declared.LineKind.{LineKind}
 use Rattle.sheet.specs.declared.LineKind.TheVariants.{Fts, Feature, Valid, Start, Move, Stop, Misplaced}
 use Rattle.sheet.specs.Sheet as sheets
@@ -36,9 +33,9 @@ place_behind [] = 1
 place_behind (f ∷ fs) = length f + 1 + place_behind fs
 
 -- "4: bad feature name, action or state": of line n, a state's field that begins at place p
-abbrev pub stated : ℕ → ℕ → Number → (ℕ → Answer State) → Answer State
-stated n p Bad k = refused (refusal 4 n p)
-stated n p (Of q) k = k q
+abbrev pub stated : ℕ → ℕ → Option ℕ → (ℕ → Answer State) → Answer State
+stated n p None k = refused (refusal because.BadField n p)
+stated n p (Some q) k = k q
 
 -- 5 to 7: "the place of the faulty byte", in the field x, which begins at place p of line n. The bytes bs are those from the faulty one on, so that "a
 -- guard that ends too soon gives the place one past its last byte"
@@ -51,9 +48,9 @@ go_on (refused q) k = refused q
 go_on (kept st) k = k st
 
 -- "No feature name, no triple of from, action and to, and no state of a stop line comes twice."
-abbrev pub is_known : Found → Bool
-is_known (At i) = true
-is_known Nothing = false
+abbrev pub is_known : Option ℕ → Bool
+is_known (Some i) = true
+is_known None = false
 
 abbrev pub is_move : ℕ → List ℕ → ℕ → sheets.Move → Bool
 is_move from action to m = eqb from m.from && (eqb to m.to && same_bytes m.action action)
@@ -113,51 +110,51 @@ keep section line s = kept (record { section = section; valid_line = line; sheet
 
 -- "A first line other than `fts`, tab, `1` is 3 at line 1."
 unfoldable pub fts_line : ℕ → State → One → Answer State
-fts_line n st not_one = refused (refusal 3 n 0)
-fts_line n st (only x) = refuse_if (not (same_bytes x edition_word)) (refusal 3 n 0) (keep 1 st.valid_line st.sheet)
+fts_line n st not_one = refused (refusal because.BadLine n 0)
+fts_line n st (only x) = refuse_if (not (same_bytes x edition_word)) (refusal because.BadLine n 0) (keep 1 st.valid_line st.sheet)
 
 unfoldable pub feature_line : ℕ → ℕ → State → One → Answer State
-feature_line n at st not_one = refused (refusal 3 n 0)
+feature_line n at st not_one = refused (refusal because.BadLine n 0)
 feature_line n at st (only x) =
-    refuse_if (leb 10 (length st.sheet.features)) (refusal 8 n 0)
-    (refuse_if (not (is_name x)) (refusal 4 n (place_behind (feature_word ∷ [])))
-    (refuse_if (is_known (number (names st.sheet.features) x)) (refusal 9 n (place_behind (feature_word ∷ [])))
+    refuse_if (leb 10 (length st.sheet.features)) (refusal because.TooManyLines n 0)
+    (refuse_if (not (is_name x)) (refusal because.BadField n (place_behind (feature_word ∷ [])))
+    (refuse_if (is_known (number (names st.sheet.features) x)) (refusal because.Repeat n (place_behind (feature_word ∷ [])))
     (keep 1 st.valid_line (with_feature st.sheet (record { name = x; place = at })))))
 
 abbrev pub guard_in : State → List ℕ → Outcome
 guard_in st x = read_whole (names st.sheet.features) x
 
 unfoldable pub valid_line : ℕ → State → One → Answer State
-valid_line n st not_one = refused (refusal 3 n 0)
+valid_line n st not_one = refused (refusal because.BadLine n 0)
 valid_line n st (only x) = guarded n (place_behind (valid_word ∷ [])) x (guard_in st x) (λ g. keep 2 n (with_valid st.sheet g))
 
 unfoldable pub start_line : ℕ → State → One → Answer State
-start_line n st not_one = refused (refusal 3 n 0)
+start_line n st not_one = refused (refusal because.BadLine n 0)
 start_line n st (only x) = stated n (place_behind (start_word ∷ [])) (read_state x) (λ q. keep 3 st.valid_line (with_start st.sheet q))
 
 -- a move whose states and action are good: its guard, which begins at place p, by 5 to 7, then 9
 unfoldable pub guarded_move : ℕ → ℕ → State → ℕ → List ℕ → ℕ → ℕ → List ℕ → Answer State
 guarded_move n p st from action place to g =
     guarded n p g (guard_in st g) (λ guard.
-    refuse_if (moved from action to st.sheet.moves) (refusal 9 n (place_behind (move_word ∷ [])))
+    refuse_if (moved from action to st.sheet.moves) (refusal because.Repeat n (place_behind (move_word ∷ [])))
     (keep 3 st.valid_line
     (with_move st.sheet (record { line = n; from = from; action = action; place = place; to = to; guard = guard }))))
 
 unfoldable pub move_line : ℕ → ℕ → State → Four → Answer State
-move_line n at st not_four = refused (refusal 3 n 0)
+move_line n at st not_four = refused (refusal because.BadLine n 0)
 move_line n at st (four f a t g) =
-    refuse_if (leb 256 (length st.sheet.moves)) (refusal 8 n 0)
+    refuse_if (leb 256 (length st.sheet.moves)) (refusal because.TooManyLines n 0)
     (stated n (place_behind (move_word ∷ [])) (read_state f) (λ from.
-    refuse_if (not (is_action a)) (refusal 4 n (place_behind (move_word ∷ f ∷ [])))
+    refuse_if (not (is_action a)) (refusal because.BadField n (place_behind (move_word ∷ f ∷ [])))
     (stated n (place_behind (move_word ∷ f ∷ a ∷ [])) (read_state t) (λ to.
     guarded_move n (place_behind (move_word ∷ f ∷ a ∷ t ∷ [])) st from a (at + length f + 1) to g))))
 
 unfoldable pub stop_line : ℕ → State → Two → Answer State
-stop_line n st not_two = refused (refusal 3 n 0)
+stop_line n st not_two = refused (refusal because.BadLine n 0)
 stop_line n st (two q g) =
     stated n (place_behind (stop_word ∷ [])) (read_state q) (λ state.
     guarded n (place_behind (stop_word ∷ q ∷ [])) g (guard_in st g) (λ guard.
-    refuse_if (stopped state st.sheet.stops) (refusal 9 n (place_behind (stop_word ∷ [])))
+    refuse_if (stopped state st.sheet.stops) (refusal because.Repeat n (place_behind (stop_word ∷ [])))
     (keep 4 st.valid_line (with_stop st.sheet (record { line = n; state = state; guard = guard })))))
 
 -- the kind of a line, by its word and the section that has come; "line unknown, misplaced" is no kind
@@ -178,11 +175,11 @@ by_kind Valid n at st fs = valid_line n st (as_one fs)
 by_kind Start n at st fs = start_line n st (as_one fs)
 by_kind Move n at st fs = move_line n at st (as_four fs)
 by_kind Stop n at st fs = stop_line n st (as_two fs)
-by_kind Misplaced n at st fs = refused (refusal 3 n 0)
+by_kind Misplaced n at st fs = refused (refusal because.BadLine n 0)
 
 -- `at` is the number of bytes before the line. No line has one field only.
 abbrev pub by_word : ℕ → ℕ → State → List (List ℕ) → Answer State
-by_word n at st [] = refused (refusal 3 n 0)
+by_word n at st [] = refused (refusal because.BadLine n 0)
 by_word n at st (w ∷ fs) = by_kind (kind_in st.section w) n (at + length w + 1) st fs
 
 unfoldable pub read_line : ℕ → ℕ → State → List ℕ → Answer State
@@ -195,8 +192,8 @@ none t (suc n) = not (t n) && none t n
 
 unfoldable pub ended : ℕ → State → Answer Sheet
 ended n st =
-    refuse_if (ltb st.section 3) (refusal 3 n 0)
-    (refuse_if (none (is_valid st.sheet) (2 ^ length st.sheet.features)) (refusal 10 st.valid_line 0)
+    refuse_if (ltb st.section 3) (refusal because.BadLine n 0)
+    (refuse_if (none (is_valid st.sheet) (2 ^ length st.sheet.features)) (refusal because.NoValidProduct st.valid_line 0)
     (kept st.sheet))
 
 -- "Order: 1, 2, then the lines from the top."
@@ -215,6 +212,6 @@ last d (b ∷ bs) = last b bs
 -- "1: sheet over 65,536 bytes"; "2: sheet empty, or last byte is not 10"; "Lines are counted from 1."
 unfoldable pub read_sheet : List ℕ → Answer Sheet
 read_sheet s =
-    refuse_if (ltb 65536 (length s)) (refusal 1 0 0)
-    (refuse_if (not (eqb (last 0 s) 10)) (refusal 2 0 0)
+    refuse_if (ltb 65536 (length s)) (refusal because.SheetTooLong 0 0)
+    (refuse_if (not (eqb (last 0 s) 10)) (refusal because.NoLastLineEnd 0 0)
     (read_lines 1 0 nothing (lines s)))

@@ -1,11 +1,10 @@
 -- What the code's tables and answers stand for: one relation between tables and sheet. Assumes nothing: these are definitions.
-use Rattle.std.specs.Prelude.{List, [], ◌∷◌, ◌≡◌, ℕ, zero, suc, ◌+◌, ◌≤◌, ◌<◌, length, get_or, replicate}
+use Rattle.refusals.specs.declared.Refusal.{Refusal}
+use Rattle.std.specs.Prelude.{List, [], ◌∷◌, ◌≡◌, ℕ, zero, suc, ◌+◌, ◌≤◌, ◌<◌, length, get_or, replicate, Result, Ok, Err}
 use Rattle.products.specs.Sets.{has, one_if}
 use Rattle.fields.specs.Bytes.{part}
 use Rattle.guards.specs.Guard.{Means}
 use Rattle.sheet.specs.declared.Counts.{Counts}
-use Rattle.sheet.specs.declared.SheetRead.{SheetRead}
-use Rattle.sheet.specs.declared.SheetRead.TheVariants as whole
 use Rattle.sheet.specs.Sheet.{Feature, Move, Stop, Sheet, is_valid}
 use Rattle.sheet.specs.Reading.{kept, refused, read_sheet}
 
@@ -89,6 +88,6 @@ blank_tables m g t h =
 
 -- of tables that are lent with m, g, t and h rows: refused as the definition refuses, and all of them blank; or kept, and they stand for the
 -- definition's sheet
-abbrev pub ReadsSheet : ℕ → ℕ → ℕ → ℕ → List ℕ → Tables → SheetRead → Type 0
-ReadsSheet m g t h s T (whole.Kept c) = ReadInto s T c × Sized m g t h T
-ReadsSheet m g t h s T (whole.Refused q) = (read_sheet s ≡ refused q) × (T ≡ blank_tables m g t h)
+abbrev pub ReadsSheet : ℕ → ℕ → ℕ → ℕ → List ℕ → Tables → Result Counts Refusal → Type 0
+ReadsSheet m g t h s T (Ok c) = ReadInto s T c × Sized m g t h T
+ReadsSheet m g t h s T (Err q) = (read_sheet s ≡ refused q) × (T ≡ blank_tables m g t h)

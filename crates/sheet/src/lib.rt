@@ -13,7 +13,7 @@ ghost use Rattle.sheet.specs.Tables.{tables, blank_tables, ReadsSheet};
 ghost use Rattle.sheet.specs.Inside.{Stands, Ends};
 
 use line::read_line;
-use refusals::Refusal;
+use refusals::{Reason, Refusal, refuse};
 use tables::MOST_BYTES;
 
 // What an accepted sheet counts, and its start.
@@ -25,29 +25,26 @@ pub struct Counts {
     pub stops: usize,
 }
 
-// The outermost answer: the tables stand for the sheet, or the refusal.
-#[derive(Clone, Copy)]
-pub enum SheetRead {
-    Kept(Counts),
-    Refused(Refusal),
+// How far into a sheet the lines so far have come.
+#[derive(Clone, Copy, Default)]
+pub enum Section {
+    #[default]
+    BeforeFts,
+    AmongFeatures,
+    BehindValid,
+    BehindStart,
+    BehindStop,
 }
 
-// How far the lines so far have come: the section reached, the number of the `valid` line, and the counts.
-#[derive(Clone, Copy)]
+// What the lines so far say: the section reached, the number of the `valid` line, and the counts.
+#[derive(Clone, Copy, Default)]
 pub struct Progress {
-    pub section: u8,
+    pub section: Section,
     pub valid: usize,
     pub features: usize,
     pub start: usize,
     pub moves: usize,
     pub stops: usize,
-}
-
-// A line reader's answer.
-#[derive(Clone, Copy)]
-pub enum LineRead {
-    Kept(Progress),
-    Refused(Refusal),
 }
 
 // Where a line stands in the text, from `at` up to `end`, and its number.
@@ -58,12 +55,11 @@ pub struct LinePlace {
     pub number: usize,
 }
 
-// A move's states, where its from, action and to are good; else where in the line the first bad one of
-// them begins.
+// A move's states.
 #[derive(Clone, Copy)]
-pub enum Triple {
-    Good { from: usize, to: usize },
-    Bad(usize),
+pub struct Triple {
+    pub from: usize,
+    pub to: usize,
 }
 
 // What a line is, by its word and the section reached.
@@ -92,7 +88,7 @@ pub fn read_sheet(
     move_guards: &mut [[u64; 16]; 256],
     stops: &mut [[usize; 2]; 64],
     stop_guards: &mut [[u64; 16]; 64],
-) -> SheetRead
+) -> Result<Counts, Refusal>
     ensures { ReadsSheet 256 256 64 64 text.now (tables names.new valid.new moves.new move_guards.new stops.new stop_guards.new) result }
 {
     clear(names, valid, moves, move_guards, stops, stop_guards);
@@ -110,29 +106,28 @@ pub fn read_blank(
     move_guards: &mut [[u64; 16]],
     stops: &mut [[usize; 2]],
     stop_guards: &mut [[u64; 16]],
-) -> SheetRead
+) -> Result<Counts, Refusal>
     requires tables_blank { tables names.old valid.old moves.old move_guards.old stops.old stop_guards.old ≡ blank_tables (length moves.old) (length move_guards.old) (length stops.old) (length stop_guards.old) }
     requires tables_suffice { (min (length text.now) 3328 ≤ 13 * length moves.old) × (min (length text.now) 3328 ≤ 13 * length move_guards.old) × (min (length text.now) 576 ≤ 9 * length stops.old) × (min (length text.now) 576 ≤ 9 * length stop_guards.old) }
     ensures { ReadsSheet (length moves.old) (length move_guards.old) (length stops.old) (length stop_guards.old) text.now (tables names.new valid.new moves.new move_guards.new stops.new stop_guards.new) result }
 {
     if MOST_BYTES < text.len() {
-        return refuse_sheet(1, 0);
+        return refuse(Reason::SheetTooLong, 0, 0);
     }
     if text.len() == 0 {
-        return refuse_sheet(2, 0);
+        return refuse(Reason::NoLastLineEnd, 0, 0);
     }
     if text[text.len() - 1] != LINE_END {
-        return refuse_sheet(2, 0);
+        return refuse(Reason::NoLastLineEnd, 0, 0);
     }
     let r = read_lines(text, names, valid, moves, move_guards, stops, stop_guards);
-    let SheetRead::Kept(_) = r else {
+    if r.is_err() {
         clear_lent(names, valid, moves, move_guards, stops, stop_guards);
-        return r;
-    };
+    }
     r
 }
 
-// Leaves no row in any table.
+// Leaves no row in any table: whole arrays are written at once, where `clear_lent` goes by rows.
 fn clear(
     names: &mut [[usize; 2]; 10],
     valid: &mut [u64; 16],
@@ -164,52 +159,10 @@ fn clear_lent(
 {
     *names = [[0usize; 2]; 10];
     *valid = [0u64; 16];
-    clear_moves(moves);
-    clear_guards(move_guards);
-    clear_stops(stops);
-    clear_guards(stop_guards);
-}
-
-// Makes every row blank; one function for each kind of row.
-fn clear_moves(rows: &mut [[usize; 5]])
-    ensures { rows.new ≡ replicate (length rows.new) (replicate 5 0) }
-{
-    let mut i = 0;
-    while i < rows.len() {
-        rows[i] = [0usize; 5];
-        i += 1;
-    }
-}
-
-fn clear_stops(rows: &mut [[usize; 2]])
-    ensures { rows.new ≡ replicate (length rows.new) (replicate 2 0) }
-{
-    let mut i = 0;
-    while i < rows.len() {
-        rows[i] = [0usize; 2];
-        i += 1;
-    }
-}
-
-fn clear_guards(rows: &mut [[u64; 16]])
-    ensures { rows.new ≡ replicate (length rows.new) (replicate 16 0) }
-{
-    let mut i = 0;
-    while i < rows.len() {
-        rows[i] = [0u64; 16];
-        i += 1;
-    }
-}
-
-// A refusal of the sheet as a whole, or of its end, speaks of no place.
-fn refuse_sheet(number: u8, line: usize) -> SheetRead
-    ensures { result ≡ SheetRead.Refused (refusal number line 0) }
-{
-    SheetRead::Refused(Refusal {
-        number,
-        line,
-        place: 0,
-    })
+    moves.fill([0usize; 5]);
+    move_guards.fill([0u64; 16]);
+    stops.fill([0usize; 2]);
+    stop_guards.fill([0u64; 16]);
 }
 
 // Reads all lines into blank tables; what a refusal leaves in them is not said. `seen` has the marks by
@@ -222,18 +175,19 @@ fn read_lines(
     move_guards: &mut [[u64; 16]],
     stops: &mut [[usize; 2]],
     stop_guards: &mut [[u64; 16]],
-) -> SheetRead
+) -> Result<Counts, Refusal>
     requires blank_and_ended { (tables names.old valid.old moves.old move_guards.old stops.old stop_guards.old ≡ blank_tables (length moves.old) (length move_guards.old) (length stops.old) (length stop_guards.old)) × (get_or text.now (length text.now - 1) 0 ≡ 10) }
     requires tables_suffice { (min (length text.now) 3328 ≤ 13 * length moves.old) × (min (length text.now) 3328 ≤ 13 * length move_guards.old) × (min (length text.now) 576 ≤ 9 * length stops.old) × (min (length text.now) 576 ≤ 9 * length stop_guards.old) }
     ensures { Ends text.now (tables names.new valid.new moves.new move_guards.new stops.new stop_guards.new) result (read_lines 1 0 nothing (lines text.now)) }
 {
     let mut seen = [0u64; 128];
-    let mut c = no_lines();
+    let mut c = Progress::default();
     let mut at = 0;
     let mut number = 1;
+    // From line end to line end: an iterator over the lines would not say where each one stands.
     while at < text.len() {
         let end = fields::find(text, LINE_END, at);
-        let r = read_line(
+        c = read_line(
             text,
             LinePlace { at, end, number },
             c,
@@ -244,57 +198,28 @@ fn read_lines(
             stops,
             stop_guards,
             &mut seen,
-        );
-        let LineRead::Kept(next) = r else {
-            return pass_up(r);
-        };
-        c = next;
+        )?;
         at = end + 1;
         number += 1;
     }
     finish(c, number, valid)
 }
 
-// Before the first line.
-fn no_lines() -> Progress
-    ensures { result ≡ record { section = 0; valid = 0; features = 0; start = 0; moves = 0; stops = 0 } }
-{
-    Progress {
-        section: 0,
-        valid: 0,
-        features: 0,
-        start: 0,
-        moves: 0,
-        stops: 0,
-    }
-}
-
-// A line's refusal as the sheet's, unchanged.
-fn pass_up(r: LineRead) -> SheetRead
-    ensures { (q : Refusal) → r ≡ LineRead.Refused q → result ≡ SheetRead.Refused q }
-{
-    match r {
-        LineRead::Refused(refusal) => SheetRead::Refused(refusal),
-        LineRead::Kept(_) => refuse_sheet(0, 0),
-    }
-}
-
 // The end of the sheet, behind its last line: `line` is the number of the line that would follow. The
 // set of valid products is cut down to the products of this sheet's features.
-fn finish(c: Progress, line: usize, valid: &mut [u64; 16]) -> SheetRead
+fn finish(c: Progress, line: usize, valid: &mut [u64; 16]) -> Result<Counts, Refusal>
     ensures { (s : List ℕ) (n m g t h : List (List ℕ)) (seen : List ℕ) (st : State) → Stands s (tables n valid.old m g t h) seen c st → Ends s (tables n valid.new m g t h) result (ended line st) }
 {
-    let section = c.section;
-    if section < 3 {
-        return refuse_sheet(3, line);
-    }
+    let (Section::BehindStart | Section::BehindStop) = c.section else {
+        return refuse(Reason::BadLine, line, 0);
+    };
     let held = *valid;
     let allowed = products::both(held, products::all(c.features));
     if members::is_empty(allowed) {
-        return refuse_sheet(10, c.valid);
+        return refuse(Reason::NoValidProduct, c.valid, 0);
     }
     *valid = allowed;
-    SheetRead::Kept(Counts {
+    Ok(Counts {
         features: c.features,
         start: c.start,
         moves: c.moves,

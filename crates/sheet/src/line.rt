@@ -5,16 +5,15 @@ ghost use Rattle.std.specs.Prelude.{◌≡◌, List, ℕ, ◌+◌, ◌*◌, ◌^
 ghost use Rattle.refusals.specs.Refusal.{refusal};
 ghost use Rattle.fields.specs.Bytes.{part};
 ghost use Rattle.fields.specs.Cutting.{fields, as_one, as_two, as_four};
+ghost use Rattle.guards.specs.Reading.{names_in, read_whole};
 ghost use Rattle.sheet.specs.Reading.{State, kind_in, fts_line, feature_line, valid_line, start_line, guarded_move, move_line, stop_line, read_line};
 ghost use Rattle.sheet.specs.Tables.{Tables, tables, Lies};
-ghost use Rattle.sheet.specs.Inside.{Tripled, Stands, Says};
+ghost use Rattle.sheet.specs.Inside.{number_of, Guards, Tripled, Stands, Says};
 
 use super::row::{has_stop, is_repeat};
-use super::{LineKind, LinePlace, LineRead, Progress, Triple};
-use fields::{FourFields, Number, TwoFields};
-use guards::GuardRead;
-use products::Found;
-use refusals::Refusal;
+use super::{LineKind, LinePlace, Progress, Section, Triple};
+use guards::FeatureNames;
+use refusals::{Reason, Refusal, refuse};
 use tables::{MOST_FEATURES, MOST_MOVES, MOST_STOPS};
 
 const TAB: u8 = 9;
@@ -42,116 +41,76 @@ pub(crate) fn read_line(
     stops: &mut [[usize; 2]],
     stop_guards: &mut [[u64; 16]],
     seen: &mut [u64; 128],
-) -> LineRead
+) -> Result<Progress, Refusal>
     requires line_within { (place.at ≤ place.end) × (place.end ≤ length text.now) × (c.moves * 13 + c.stops * 9 ≤ place.at) }
     requires tables_suffice { (min (length text.now) 3328 ≤ 13 * length moves.old) × (min (length text.now) 3328 ≤ 13 * length move_guards.old) × (min (length text.now) 576 ≤ 9 * length stops.old) × (min (length text.now) 576 ≤ 9 * length stop_guards.old) }
     ensures { (st : State) → Stands text.now (tables names.old valid.old moves.old move_guards.old stops.old stop_guards.old) seen.old c st → Says text.now (tables names.new valid.new moves.new move_guards.new stops.new stop_guards.new) seen.new result (read_line place.number place.at st (part text.now place.at place.end)) }
 {
-    let at = place.at;
-    let end = place.end;
-    let line = place.number;
+    let LinePlace { at, end, number } = place;
     let l = &text[at..end];
     let w = fields::find(l, TAB, 0);
     if l.len() <= w {
-        return refuse(3, line, 0);
+        return refuse(Reason::BadLine, number, 0);
     }
     let rest = &l[w + 1..];
-    let k = line_kind(c.section, &l[0..w]);
     let next = at + w + 1;
-    match k {
-        LineKind::Fts => read_fts(rest, line, c),
-        LineKind::Feature => read_feature(text, rest, next, line, c, names),
-        LineKind::Valid => read_valid(text, rest, line, c, names, valid),
-        LineKind::Start => read_start(rest, line, c),
-        LineKind::Move => read_move(text, rest, next, line, c, names, moves, move_guards, seen),
-        LineKind::Stop => read_stop(text, rest, line, c, names, stops, stop_guards),
-        LineKind::Misplaced => refuse(3, line, 0),
+    match line_kind(c.section, &l[0..w]) {
+        LineKind::Fts => read_fts(rest, number, c),
+        LineKind::Feature => read_feature(text, rest, next, number, c, names),
+        LineKind::Valid => read_valid(text, rest, number, c, names, valid),
+        LineKind::Start => read_start(rest, number, c),
+        LineKind::Move => read_move(text, rest, next, number, c, names, moves, move_guards, seen),
+        LineKind::Stop => read_stop(text, rest, number, c, names, stops, stop_guards),
+        LineKind::Misplaced => refuse(Reason::BadLine, number, 0),
     }
 }
 
 // The one place that knows which lines may come in which section.
-fn line_kind(section: u8, word: &[u8]) -> LineKind
-    ensures { result ≡ kind_in section word.now }
+fn line_kind(section: Section, word: &[u8]) -> LineKind
+    ensures { result ≡ kind_in (number_of section) word.now }
 {
-    if section == 0 {
-        if fields::same_bytes(word, b"fts") {
-            return LineKind::Fts;
-        }
-        return LineKind::Misplaced;
-    }
-    if section == 1 {
-        if fields::same_bytes(word, b"feature") {
-            return LineKind::Feature;
-        }
-        if fields::same_bytes(word, b"valid") {
-            return LineKind::Valid;
-        }
-        return LineKind::Misplaced;
-    }
-    if section == 2 {
-        if fields::same_bytes(word, b"start") {
-            return LineKind::Start;
-        }
-        return LineKind::Misplaced;
-    }
-    if fields::same_bytes(word, b"stop") {
-        return LineKind::Stop;
-    }
-    if section == 3 {
-        if fields::same_bytes(word, b"move") {
-            return LineKind::Move;
-        }
-    }
-    LineKind::Misplaced
-}
-
-fn refuse(number: u8, line: usize, place: usize) -> LineRead
-    ensures { result ≡ LineRead.Refused (refusal number line place) }
-{
-    LineRead::Refused(Refusal {
-        number,
-        line,
-        place,
-    })
-}
-
-// A guard's refusal as its line's: `guard_place` is where the guard begins in its line.
-fn refuse_guard(read: GuardRead, line: usize, guard_place: usize) -> LineRead
-    requires { (e at : ℕ) → read ≡ GuardRead.Refused e at → guard_place + at < 2 ^ 64 }
-    ensures { (e at : ℕ) → read ≡ GuardRead.Refused e at → result ≡ LineRead.Refused (refusal e line (guard_place + at)) }
-{
-    match read {
-        GuardRead::Refused { number, at } => refuse(number, line, guard_place + at),
-        GuardRead::Upto(_) => refuse(0, line, 0),
+    match section {
+        Section::BeforeFts if fields::same_bytes(word, b"fts") => LineKind::Fts,
+        Section::AmongFeatures if fields::same_bytes(word, b"feature") => LineKind::Feature,
+        Section::AmongFeatures if fields::same_bytes(word, b"valid") => LineKind::Valid,
+        Section::BehindValid if fields::same_bytes(word, b"start") => LineKind::Start,
+        Section::BehindStart | Section::BehindStop if fields::same_bytes(word, b"stop") =>
+            LineKind::Stop,
+        Section::BehindStart if fields::same_bytes(word, b"move") => LineKind::Move,
+        _ => LineKind::Misplaced,
     }
 }
 
-// A bad field of a move, by where it begins.
-fn refuse_triple(t: Triple, line: usize) -> LineRead
-    ensures { (p : ℕ) → t ≡ Triple.Bad p → result ≡ LineRead.Refused (refusal 4 line p) }
+// The guard of a line, which begins at `place` in it: its set is laid into `set`. It is refused as the
+// guard is, with the line and the faulty byte's place in it.
+fn read_guard(
+    names: &FeatureNames,
+    guard: &[u8],
+    line: usize,
+    place: usize,
+    set: &mut [u64; 16],
+) -> Result<(), Refusal>
+    requires { place + length guard.now < 2 ^ 64 }
+    ensures { Guards line place guard.now result set.new (read_whole (names_in names.now) guard.now) }
 {
-    match t {
-        Triple::Bad(place) => refuse(4, line, place),
-        Triple::Good { from: _, to: _ } => refuse(0, line, 0),
+    match guards::read_whole(names, guard, set) {
+        Ok(_) => Ok(()),
+        Err(fault) => refuse(fault.reason, line, place + fault.at),
     }
 }
 
-fn read_fts(rest: &[u8], line: usize, c: Progress) -> LineRead
+fn read_fts(rest: &[u8], line: usize, c: Progress) -> Result<Progress, Refusal>
     ensures { (s : List ℕ) (T : Tables) (seen : List ℕ) (st : State) → Stands s T seen c st → Says s T seen result (fts_line line st (as_one (fields rest.now))) }
 {
     if !cutting::is_one(rest) {
-        return refuse(3, line, 0);
+        return refuse(Reason::BadLine, line, 0);
     }
     if !fields::same_bytes(rest, b"1") {
-        return refuse(3, line, 0);
+        return refuse(Reason::BadLine, line, 0);
     }
-    LineRead::Kept(Progress {
-        section: 1,
-        valid: c.valid,
-        features: c.features,
-        start: c.start,
-        moves: c.moves,
-        stops: c.stops,
+    Ok(Progress {
+        section: Section::AmongFeatures,
+        ..c
     })
 }
 
@@ -162,33 +121,34 @@ fn read_feature(
     line: usize,
     c: Progress,
     names: &mut [[usize; 2]; 10],
-) -> LineRead
+) -> Result<Progress, Refusal>
     requires { at + length rest.now ≤ length text.now }
     ensures { (v : List ℕ) (m g t h : List (List ℕ)) (seen : List ℕ) (st : State) → Stands text.now (tables names.old v m g t h) seen c st → Lies text.now rest.now at → Says text.now (tables names.new v m g t h) seen result (feature_line line at st (as_one (fields rest.now))) }
 {
     if !cutting::is_one(rest) {
-        return refuse(3, line, 0);
+        return refuse(Reason::BadLine, line, 0);
     }
     let k = c.features;
     if MOST_FEATURES <= k {
-        return refuse(8, line, 0);
+        return refuse(Reason::TooManyLines, line, 0);
     }
     if !values::is_name(rest) {
-        return refuse(4, line, BEHIND_FEATURE);
+        return refuse(Reason::BadField, line, BEHIND_FEATURE);
     }
-    let f = guards::find_name(text, names, k, rest);
-    let Found::Nothing = f else {
-        return refuse(9, line, BEHIND_FEATURE);
+    let declared = FeatureNames {
+        text,
+        rows: names,
+        count: k,
     };
+    if guards::find_name(&declared, rest).is_some() {
+        return refuse(Reason::Repeat, line, BEHIND_FEATURE);
+    }
     // NAME and NAME_END.
     names[k] = [at, at + rest.len()];
-    LineRead::Kept(Progress {
-        section: 1,
-        valid: c.valid,
+    Ok(Progress {
+        section: Section::AmongFeatures,
         features: k + 1,
-        start: c.start,
-        moves: c.moves,
-        stops: c.stops,
+        ..c
     })
 }
 
@@ -199,43 +159,38 @@ fn read_valid(
     c: Progress,
     names: &[[usize; 2]; 10],
     valid: &mut [u64; 16],
-) -> LineRead
+) -> Result<Progress, Refusal>
     ensures { (m g t h : List (List ℕ)) (seen : List ℕ) (st : State) → Stands text.now (tables names.now valid.old m g t h) seen c st → Says text.now (tables names.now valid.new m g t h) seen result (valid_line line st (as_one (fields rest.now))) }
 {
     if !cutting::is_one(rest) {
-        return refuse(3, line, 0);
+        return refuse(Reason::BadLine, line, 0);
     }
-    let read = guards::read_whole(text, names, c.features, rest, valid);
-    let GuardRead::Upto(_) = read else {
-        return refuse_guard(read, line, BEHIND_VALID);
+    let declared = FeatureNames {
+        text,
+        rows: names,
+        count: c.features,
     };
-    LineRead::Kept(Progress {
-        section: 2,
+    read_guard(&declared, rest, line, BEHIND_VALID, valid)?;
+    Ok(Progress {
+        section: Section::BehindValid,
         valid: line,
-        features: c.features,
-        start: c.start,
-        moves: c.moves,
-        stops: c.stops,
+        ..c
     })
 }
 
-fn read_start(rest: &[u8], line: usize, c: Progress) -> LineRead
+fn read_start(rest: &[u8], line: usize, c: Progress) -> Result<Progress, Refusal>
     ensures { (s : List ℕ) (T : Tables) (seen : List ℕ) (st : State) → Stands s T seen c st → Says s T seen result (start_line line st (as_one (fields rest.now))) }
 {
     if !cutting::is_one(rest) {
-        return refuse(3, line, 0);
+        return refuse(Reason::BadLine, line, 0);
     }
-    let q = values::read_state(rest);
-    let Number::Of(start) = q else {
-        return refuse(4, line, BEHIND_START);
+    let Some(start) = values::read_state(rest) else {
+        return refuse(Reason::BadField, line, BEHIND_START);
     };
-    LineRead::Kept(Progress {
-        section: 3,
-        valid: c.valid,
-        features: c.features,
-        start: start,
-        moves: c.moves,
-        stops: c.stops,
+    Ok(Progress {
+        section: Section::BehindStart,
+        start,
+        ..c
     })
 }
 
@@ -249,38 +204,40 @@ fn read_move(
     moves: &mut [[usize; 5]],
     move_guards: &mut [[u64; 16]],
     seen: &mut [u64; 128],
-) -> LineRead
+) -> Result<Progress, Refusal>
     requires rest_within { (at + length rest.now ≤ length text.now) × (c.moves * 13 < length text.now) }
     requires tables_suffice { (min (length text.now) 3328 ≤ 13 * length moves.old) × (min (length text.now) 3328 ≤ 13 * length move_guards.old) }
     ensures { (v : List ℕ) (t h : List (List ℕ)) (st : State) → Stands text.now (tables names.now v moves.old move_guards.old t h) seen.old c st → Lies text.now rest.now at → Says text.now (tables names.now v moves.new move_guards.new t h) seen.new result (move_line line at st (as_four (fields rest.now))) }
 {
-    let FourFields::Ends { b, c: m, d } = cutting::cut_four(rest) else {
-        return refuse(3, line, 0);
+    let Some(tabs) = cutting::cut_four(rest) else {
+        return refuse(Reason::BadLine, line, 0);
     };
     if MOST_MOVES <= c.moves {
-        return refuse(8, line, 0);
+        return refuse(Reason::TooManyLines, line, 0);
     }
+    let b = tabs.first;
+    let m = tabs.second;
+    let d = tabs.third;
+    let action = &rest[b + 1..m];
     let action_place = BEHIND_MOVE + b + 1;
     let to_place = BEHIND_MOVE + m + 1;
     let guard_place = BEHIND_MOVE + d + 1;
     let t = read_triple(
+        line,
         &rest[0..b],
-        &rest[b + 1..m],
+        action,
         action_place,
         &rest[m + 1..d],
         to_place,
-    );
-    let Triple::Good { from, to } = t else {
-        return refuse_triple(t, line);
-    };
+    )?;
     keep_move(
         text,
         line,
         c,
-        from,
-        &rest[b + 1..m],
+        t.from,
+        action,
         at + b + 1,
-        to,
+        t.to,
         &rest[d + 1..],
         guard_place,
         names,
@@ -292,29 +249,25 @@ fn read_move(
 
 // The fields from, action and to of a move, and where the two last begin in their line.
 fn read_triple(
+    line: usize,
     from: &[u8],
     action: &[u8],
     action_place: usize,
     to: &[u8],
     to_place: usize,
-) -> Triple
-    ensures { Tripled action_place to_place from.now action.now to.now result }
+) -> Result<Triple, Refusal>
+    ensures { Tripled line action_place to_place from.now action.now to.now result }
 {
-    let f = values::read_state(from);
-    let Number::Of(first) = f else {
-        return Triple::Bad(BEHIND_MOVE);
+    let Some(from) = values::read_state(from) else {
+        return refuse(Reason::BadField, line, BEHIND_MOVE);
     };
     if !values::is_action(action) {
-        return Triple::Bad(action_place);
+        return refuse(Reason::BadField, line, action_place);
     }
-    let o = values::read_state(to);
-    let Number::Of(second) = o else {
-        return Triple::Bad(to_place);
+    let Some(to) = values::read_state(to) else {
+        return refuse(Reason::BadField, line, to_place);
     };
-    Triple::Good {
-        from: first,
-        to: second,
-    }
+    Ok(Triple { from, to })
 }
 
 // A move whose states and action are good: its guard, which begins at `guard_place` in the line and is
@@ -334,27 +287,26 @@ fn keep_move(
     moves: &mut [[usize; 5]],
     move_guards: &mut [[u64; 16]],
     seen: &mut [u64; 128],
-) -> LineRead
+) -> Result<Progress, Refusal>
     requires { (action_at + length action.now ≤ length text.now) × (c.moves < 256) × (c.moves < length moves.old) × (c.moves < length move_guards.old) × (guard_place + length guard.now ≤ length text.now + 6) }
     ensures { (v : List ℕ) (t h : List (List ℕ)) (st : State) → Stands text.now (tables names.now v moves.old move_guards.old t h) seen.old c st → Lies text.now action.now action_at → Says text.now (tables names.now v moves.new move_guards.new t h) seen.new result (guarded_move line guard_place st from action.now action_at to guard.now) }
 {
     let k = c.moves;
-    let read = guards::read_whole(text, names, c.features, guard, &mut move_guards[k]);
-    let GuardRead::Upto(_) = read else {
-        return refuse_guard(read, line, guard_place);
+    let declared = FeatureNames {
+        text,
+        rows: names,
+        count: c.features,
     };
+    read_guard(&declared, guard, line, guard_place, &mut move_guards[k])?;
     if is_repeat(text, moves, k, seen, from, action, to) {
-        return refuse(9, line, BEHIND_MOVE);
+        return refuse(Reason::Repeat, line, BEHIND_MOVE);
     }
     // LINE, FROM, ACTION, ACTION_END and TO.
     moves[k] = [line, from, action_at, action_at + action.len(), to];
-    LineRead::Kept(Progress {
-        section: 3,
-        valid: c.valid,
-        features: c.features,
-        start: c.start,
+    Ok(Progress {
+        section: Section::BehindStart,
         moves: k + 1,
-        stops: c.stops,
+        ..c
     })
 }
 
@@ -367,49 +319,43 @@ fn read_stop(
     names: &[[usize; 2]; 10],
     stops: &mut [[usize; 2]],
     stop_guards: &mut [[u64; 16]],
-) -> LineRead
+) -> Result<Progress, Refusal>
     requires stops_within { c.stops * 9 < length text.now }
     requires tables_suffice { (min (length text.now) 576 ≤ 9 * length stops.old) × (min (length text.now) 576 ≤ 9 * length stop_guards.old) }
     ensures { (v : List ℕ) (m g : List (List ℕ)) (seen : List ℕ) (st : State) → Stands text.now (tables names.now v m g stops.old stop_guards.old) seen c st → Says text.now (tables names.now v m g stops.new stop_guards.new) seen result (stop_line line st (as_two (fields rest.now))) }
 {
-    let cut = cutting::cut_two(rest);
-    let TwoFields::Parted(b) = cut else {
-        return refuse(3, line, 0);
+    let Some(b) = cutting::cut_two(rest) else {
+        return refuse(Reason::BadLine, line, 0);
     };
-    let q = values::read_state(&rest[0..b]);
-    let Number::Of(state) = q else {
-        return refuse(4, line, BEHIND_STOP);
+    let Some(state) = values::read_state(&rest[0..b]) else {
+        return refuse(Reason::BadField, line, BEHIND_STOP);
     };
     let mut set = [0u64; 16];
-    let read = guards::read_whole(text, names, c.features, &rest[b + 1..], &mut set);
-    let GuardRead::Upto(_) = read else {
-        return refuse_guard(read, line, BEHIND_STOP + b + 1);
+    let declared = FeatureNames {
+        text,
+        rows: names,
+        count: c.features,
     };
+    read_guard(
+        &declared,
+        &rest[b + 1..],
+        line,
+        BEHIND_STOP + b + 1,
+        &mut set,
+    )?;
     let k = c.stops;
     if has_stop(stops, k, state) {
-        return refuse(9, line, BEHIND_STOP);
+        return refuse(Reason::Repeat, line, BEHIND_STOP);
     }
     if MOST_STOPS <= k {
-        return refuse(9, line, BEHIND_STOP);
+        return refuse(Reason::Repeat, line, BEHIND_STOP);
     }
     // LINE and STATE.
     stops[k] = [line, state];
     stop_guards[k] = set;
-    let next = with_stop(c);
-    LineRead::Kept(next)
-}
-
-// One stop more.
-fn with_stop(c: Progress) -> Progress
-    requires { c.stops < 64 }
-    ensures { result ≡ record { section = 4; valid = c.valid; features = c.features; start = c.start; moves = c.moves; stops = c.stops + 1 } }
-{
-    Progress {
-        section: 4,
-        valid: c.valid,
-        features: c.features,
-        start: c.start,
-        moves: c.moves,
-        stops: c.stops + 1,
-    }
+    Ok(Progress {
+        section: Section::BehindStop,
+        stops: k + 1,
+        ..c
+    })
 }

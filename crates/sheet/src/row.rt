@@ -35,11 +35,9 @@ pub(crate) fn is_repeat(
 fn place_of(from: usize, action: &[u8], to: usize) -> usize
     ensures { result ≡ place_of from action.now to }
 {
-    let low = action.len() - counts::at_most(action.len(), 3);
+    let low = action.len() - action.len().min(3);
     let mut h = from % 64 * 128 + to % 64;
-    let mut i = action.len();
-    while low < i {
-        i -= 1;
+    for i in (low..action.len()).rev() {
         h = mix(h, action[i]);
     }
     h
@@ -56,15 +54,9 @@ fn mix(h: usize, b: u8) -> usize
 fn is_move(text: &[u8], row: [usize; 5], from: usize, action: &[u8], to: usize) -> bool
     ensures { (m : Move) → MoveRow text.now row m → result ≡ is_move from action.now to m }
 {
-    if from != row[FROM] {
-        return false;
-    }
-    if to != row[TO] {
-        return false;
-    }
-    let a = row[ACTION];
-    let e = row[ACTION_END];
-    fields::same_bytes(fields::piece(text, a, e), action)
+    from == row[FROM]
+        && to == row[TO]
+        && fields::same_bytes(fields::piece(text, row[ACTION], row[ACTION_END]), action)
 }
 
 // Whether one of the first `count` moves has this from, action and to.
@@ -78,11 +70,8 @@ fn has_move(
 ) -> bool
     ensures { (ms : List Move) → Rows (λ i m. MoveRow text.now (get_or moves.now i List.[]) m) (min count (length moves.now)) ms → result ≡ moved from action.now to ms }
 {
-    let mut i = counts::at_most(count, moves.len());
-    while 0 < i {
-        i -= 1;
-        let row = moves[i];
-        if is_move(text, row, from, action, to) {
+    for i in (0..count.min(moves.len())).rev() {
+        if is_move(text, moves[i], from, action, to) {
             return true;
         }
     }
@@ -93,11 +82,8 @@ fn has_move(
 pub(crate) fn has_stop(stops: &[[usize; 2]], count: usize, state: usize) -> bool
     ensures { (ds : List Stop) → Rows (λ i d. StopRow (get_or stops.now i List.[]) d) (min count (length stops.now)) ds → result ≡ stopped state ds }
 {
-    let mut i = counts::at_most(count, stops.len());
-    while 0 < i {
-        i -= 1;
-        let row = stops[i];
-        if state == row[STATE] {
+    for i in (0..count.min(stops.len())).rev() {
+        if state == stops[i][STATE] {
             return true;
         }
     }

@@ -71,11 +71,6 @@ set_here m v x k l lk = has_at (set m v x) v k lk ∙ ap (λ (y : ℕ). bit y k)
 
 -- ---- by whole words
 
-pub widened_none : (h : ℕ) (t l : List ℕ) → length l ≡ 16 → Widened h t l l 0 0
-widened_none h t l e =
-    let z : h * 64 + 0 * 64 ≡ h * 64 = omega arith in
-    record { long = e; kept = λ p lp. refl; split = λ p lp. absurd (omega arith); more = rw z (omega arith) }
-
 module _ {h w k : ℕ} {t l m : List ℕ} (wide : Widened h t l m w k) (small : h ≤ 8) (lw : w < h) where
   -- word h + w
   abbrev split : ℕ
@@ -121,10 +116,6 @@ module _ {h w k : ℕ} {t l m : List ℕ} (wide : Widened h t l m w k) (small : 
         split = λ p lp. split_at p lp (dec_lt p (w * 64));
         more = rw e (omega (arith, n, ap (count_to m') d, a, b, wide.more, told));
       }
-
--- all words
-pub widened_all : {h w k : ℕ} {t l m : List ℕ} → Widened h t l m w k → w ≤ h → h ≤ w → Widened h t l m h k
-widened_all {h} {w} wide le ge = let e : w ≡ h = omega arith in rw e at wide
 
 -- ---- one feature more
 

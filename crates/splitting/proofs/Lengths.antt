@@ -226,8 +226,8 @@ counted_all {b} {i} {total} {text} {rows} {t} {m} counted le n s ends =
 
 -- nothing is laid, and the next place is behind as many bytes as were counted
 pub laid_counted : {l : List ℕ} {at r long b n : ℕ} (text : List ℕ) (rows : List (List ℕ)) {t s : List ℕ}
-    → (0 < long → (n : ℕ) (s : List ℕ) → Ends b n s t → long ≡ length (print (guard_of 0 n (in_set s)) (names_of text rows n) []))
-    → r ≡ behind at long → 0 < long → length l ≤ at → length l ≤ limit → Ends b n s t
+    → ((n : ℕ) (s : List ℕ) → Ends b n s t → long ≡ length (print (guard_of 0 n (in_set s)) (names_of text rows n) []))
+    → r ≡ behind at long → length l ≤ at → length l ≤ limit → Ends b n s t
     → Wrote l at (guard_text n 0 0 s (names_of text rows n)) l r
-laid_counted {at = at} {n = n} text rows {s = s} counted place some full short ends =
-    wrote_past short (place ∙ ap (behind at) (counted some n s ends ∙ sym (first_length n text rows s))) full
+laid_counted {at = at} {n = n} text rows {s = s} counted place full short ends =
+    wrote_past short (place ∙ ap (behind at) (counted n s ends ∙ sym (first_length n text rows s))) full

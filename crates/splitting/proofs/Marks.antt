@@ -12,14 +12,13 @@ use borrow.Author.Count.{below_none, below_more}
 use borrow.Author.Tests.{eqb-true, eqb-false, eq-eqb, ne_eqb}
 use lib.Bits.{bit_or, bit_xor}
 use lib.Dec.{eqb}
-use lib.ListN.{get_or, length, set, length-set}
+use lib.ListN.{get_or, length}
 use lib.Pow.{pow-add, pow-lt, pow_mono, pow_pos, shr-shr, high, low}
-use lib.Seq.{get_or-set_same, get_or-set_other}
 use Rattle.products.specs.Sets.{bit, has}
 use Rattle.products.proofs.Bits.{bit_or_lem, bit_xor_lem, zero_bit, cut_bit}
 use Rattle.products.proofs.Laws.{has_at}
 use Rattle.splitting.specs.Splitting.{in_set, alike, all}
-use Rattle.splitting.specs.Inside.{free_of, Word, Level, First, Typical}
+use Rattle.splitting.specs.Inside.{free_of, Word, Level, Typical}
 use Rattle.splitting.proofs.Laws.{bool_ext, alike_eq, eq_alike, all_at, all_true, all_ext}
 
 -- ---- numbers
@@ -222,12 +221,6 @@ module _ (s : List ℕ) where
       let h : Word s (8 + (w - 8)) (bit_xor (get_or s (w - 8) 0) (get_or s (w - 8 + 8) 0)) = word_of s 3 (w - 8) (omega arith) (λ k l. first_pair s 3 (w - 8) k l) in
       rw (e, f) at h
 
-pub told_one : {s : List ℕ} {x : ℕ} (w : ℕ) → Word s 1 x → 1 ≤ w → w < 2 → Word s w x
-told_one w h le lw = let e : 1 ≡ w = omega arith in rw e at h
-
-pub told_from : {s : List ℕ} {x : ℕ} (w m : ℕ) → Word s (m + (w - m)) x → m ≤ w → Word s w x
-told_from w m h le = let e : m + (w - m) ≡ w = omega arith in rw e at h
-
 -- ---- features 0 to 5: within a word
 
 six : (P : ℕ → Type 0) → P 0 → P 1 → P 2 → P 3 → P 4 → P 5 → (i : ℕ) → i < 6 → P i
@@ -260,10 +253,6 @@ across_more {s} {i} {r} {w} h li lw = record {
   bits = λ k. rw add-one (clear_or r (bit_xor (get_or s w 0) (get_or s w 0 / 2 ^ step i)) k ∙ ap₂ ◌&&◌ (h.bits k) (near_bit (get_or s w 0) i k li));
 }
 
--- r tells of all sixteen words
-pub across_all : {s : List ℕ} {i r w : ℕ} → Across s i r w → 16 ≤ w → (k : ℕ) → 2 ^ i + k < 64 → clear r k ≡ all (near s i k) 16
-across_all {s} {i} {r} {w} h le k l = let e : w ≡ 16 = omega (arith, h.most) in rw e at (h.bits k)
-
 -- a word that stands for all tells of all
 pub across_typical : {x i : ℕ} {s : List ℕ} → Typical x s → i < 6 → (k : ℕ) → 2 ^ i + k < 64 → clear (bit_xor x (x / 2 ^ step i)) k ≡ all (near s i k) 16
 across_typical {x} {i} {s} h li k lk =
@@ -282,16 +271,6 @@ pub record Brought (s : List ℕ) (i r j : ℕ) : Type 0 where
   pub least : i ≤ j
   pub most : j ≤ 5
   pub bits : (k : ℕ) → 2 ^ i + k < 2 ^ suc j → clear r k ≡ all (λ q. near_at s i (k + q * 2 ^ suc j)) (2 ^ (9 - j))
-
-pub brought_first : {s : List ℕ} {i r : ℕ} → ((k : ℕ) → 2 ^ i + k < 64 → clear r k ≡ all (near s i k) 16) → i < 6 → Brought s i r 5
-brought_first {s} {i} {r} h li = record {
-  least = omega arith;
-  most = omega arith;
-  bits = λ k lk. h k lk ∙ all_ext (near s i k) (λ q. near_at s i (k + q * 64)) 16 (λ q l.
-      let a : k ≡ (k + q * 64) % 64 = omega arith in
-      let b : q ≡ (k + q * 64) / 64 = omega arith in
-      ap₂ (λ (x y : ℕ). near s i x y) a b);
-}
 
 brought_down : {s : List ℕ} {i r j : ℕ} → Brought s i r (suc j) → i < suc j → Brought s i (bit_or r (r / 2 ^ step (suc j))) j
 brought_down {s} {i} {r} {j} h l =
@@ -434,23 +413,6 @@ pub record Made (s t : List ℕ) (w : ℕ) : Type 0 where
   pub long : length t ≡ 16
   pub words : (v : ℕ) → 1 ≤ v → v < w → Word s v (get_or t v 0)
 
-pub made_none : (s t : List ℕ) → length t ≡ 16 → Made s t 1
-made_none s t long = record { least = omega arith; most = omega arith; long = long; words = λ v a l. absurd (omega arith) }
-
-pub made_more : {s t : List ℕ} {w x : ℕ} → Made s t w → w < 16 → Word s w x → Made s (set t w x) (w + 1)
-made_more {s} {t} {w} {x} h lw e = record {
-  least = omega arith;
-  most = omega arith;
-  long = simp length-set h.long;
-  words = λ v a l. go v a l (dec_lt v w);
-}
-  where
-    go : (v : ℕ) → 1 ≤ v → v < w + 1 → Dec (v < w) → Word s v (get_or (set t w x) v 0)
-    go v a l (yes lt) = rw (get_or-set_other t w v x 0 (omega arith)) (h.words v a lt)
-    go v a l (no ge) =
-        let q : v ≡ w = omega arith in
-        rw (q, get_or-set_same t w x 0 (omega (arith, h.long))) e
-
 -- ---- the first feature that the table marks
 
 pub record Passed (t : List ℕ) (n i c j : ℕ) : Type 0 where
@@ -464,24 +426,3 @@ passed_none t n i c le = record { least = omega arith; most = le; none = λ k a 
 pub mark_below : (i j n c : ℕ) → c < 2 ^ i → i ≤ j → j < n → n ≤ 10 → step j + c < 1024
 mark_below i j n c lc le lj ln =
     omega (arith, step_is j (omega arith), two_pow j, pow_mono {i = i} {j = j} le, pow_mono {i = suc j} {j = 10} (omega arith))
-
-pub passed_more : {t : List ℕ} {n i c j : ℕ} {b : Bool} → Passed t n i c j → b ≡ in_set t (step j + c) → b ≡ false → j < n → n ≤ 10 → Passed t n i c (j + 1)
-passed_more {t} {n} {i} {c} {j} h told left lj ln = record {
-  least = omega (arith, h.least);
-  most = omega arith;
-  none = λ k a l. go k a l (dec_lt k j);
-}
-  where
-    go : (k : ℕ) → i ≤ k → k < j + 1 → Dec (k < j) → in_set t (2 ^ k + c) ≡ false
-    go k a l (yes lt) = h.none k a lt
-    go k a l (no ge) =
-        let e : k ≡ j = omega arith in
-        rw (e, ← step_is j (omega arith)) (sym told ∙ left)
-
-pub first_here : {t : List ℕ} {n i c j : ℕ} {b : Bool} → Passed t n i c j → b ≡ in_set t (step j + c) → b ≡ true → j < n → n ≤ 10
-    → (i ≤ j) × (j ≤ n) × First t n i c j
-first_here {t} {n} {i} {c} {j} h told taken lj ln =
-    (h.least, h.most, record { passed = h.none; marked = λ l. rw (← step_is j (omega arith)) (sym told ∙ taken) })
-
-pub first_none : {t : List ℕ} {n i c j : ℕ} → Passed t n i c j → n ≤ j → (i ≤ j) × (j ≤ n) × First t n i c j
-first_none h le = (h.least, h.most, record { passed = h.none; marked = λ l. absurd (omega arith) })

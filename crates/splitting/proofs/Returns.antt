@@ -8,21 +8,19 @@ use native.Mathlib.Omega.{arith}
 use native.Mathlib.Decide.{dec_lt}
 use native.Mathlib.Numerals.{add-one}
 use native.Mathlib.Nat.{zero-mul}
-use borrow.Author.Tests.{lt-ltb, le-ltb, eqb-true, eqb-false}
+use borrow.Author.Tests.{lt-ltb, eqb-true, eqb-false}
 use lib.Dec.{eqb, ltb}
-use lib.ListN.{length, take}
+use lib.ListN.{length}
 use lib.Pow.{pow_mono}
 use Rattle.products.specs.Sets.{has, one_if}
 use Rattle.products.proofs.Laws.{has_le}
 use Rattle.text.specs.Text.{Wrote}
 use Rattle.text.proofs.Laws.{wrote_then}
-use Rattle.fields.specs.Bytes.{part}
-use Rattle.fields.proofs.Parts.{part_rest}
 use Rattle.guards.specs.Guard.{Operator, Guard, Parts, never, always, feature, neg, chain, choice, one, more, name_of, byte_of, print, print_parts}
 use Rattle.guards.specs.Reading.{names_of}
 use Rattle.guards.proofs.Finding.{row_name, names_length}
 use Rattle.splitting.specs.Splitting.{in_set, guard_of}
-use Rattle.splitting.specs.Inside.{Within, First, Ends, leaf_text}
+use Rattle.splitting.specs.Inside.{First, Ends, leaf_text}
 use Rattle.splitting.proofs.Laws.{guard_ext}
 use Rattle.splitting.proofs.Marks.{two_pow, step, step_is}
 use Rattle.splitting.proofs.Halving.{allowed, split_guard, first_guard}
@@ -71,23 +69,10 @@ name_row s t (suc n) i l = go (name_row s t n i) (eqb i n) refl
 abbrev pub guard_text : ℕ → ℕ → ℕ → List ℕ → List (List ℕ) → List ℕ
 guard_text n i c set names = print (guard_of i (n - i) (λ q. in_set set (c + q * 2 ^ i))) names []
 
-module _ {l l' : List ℕ} {at r : ℕ} where
-  pub laid_one : {b : Bool} → Wrote l at (49 ∷ []) l' r → b ≡ true → Wrote l at (leaf_text b) l' r
-  laid_one {b} w e = rw e w
-
-  pub laid_zero : {b : Bool} → Wrote l at (48 ∷ []) l' r → b ≡ false → Wrote l at (leaf_text b) l' r
-  laid_zero {b} w e = rw e w
-
 pub leaf_text_lem : (b : Bool) (names : List (List ℕ)) → print (cond b always never) names [] ≡ leaf_text b
 unfolding print
 leaf_text_lem true names = refl
 leaf_text_lem false names = refl
-
--- a text taken anew is the text: what is laid with the names in the one is laid with the names in the other
-pub anew : {l l' : List ℕ} {at r : ℕ} (g : Guard) (text : List ℕ) (rows : List (List ℕ)) (n : ℕ)
-    → Wrote l at (print g (names_of (take (length text - 0) text) rows n) []) l' r → Wrote l at (print g (names_of text rows n) []) l' r
-unfolding part
-anew g text rows n w = let e : take (length text - 0) text ≡ text = part_rest text 0 in rw e at w
 
 -- what is not marked before m is marked nowhere
 none_left : {m n i j c : ℕ} {set t : List ℕ} → Ends m n set t → First t m i c j → m ≤ j → c < 2 ^ i → First t n i c n
@@ -173,12 +158,6 @@ chosen_small j n c lc lj ln = omega (arith, chosen_below j n c lc lj ln, pow_mon
 -- and below what later ones make
 pub below_later : (i j c : ℕ) → c < 2 ^ i → i ≤ j → c < 2 ^ j
 below_later i j c lc le = omega (arith, pow_mono {i = i} {j = j} le)
-
--- the first n features' products of the set
-pub whole_within : (n : ℕ) (set every cut : List ℕ) → ((p : ℕ) → p < 1024 → has cut p ≡ min (has set p) (has every p))
-    → ((p : ℕ) → p < 1024 → has every p ≡ one_if (ltb p (2 ^ n))) → Within n cut
-whole_within n set every cut both all =
-    record { few = λ p l le. omega (arith, both p l, all p l, ap (λ (b : Bool). one_if b) (le-ltb p (2 ^ n) le)) }
 
 whole_in : (n : ℕ) (set every cut : List ℕ) → ((p : ℕ) → p < 1024 → has cut p ≡ min (has set p) (has every p))
     → ((p : ℕ) → p < 1024 → has every p ≡ one_if (ltb p (2 ^ n))) → n ≤ 10 → (q : ℕ) → q < 2 ^ n → in_set cut (0 + q * 2 ^ 0) ≡ in_set set q

@@ -17,7 +17,7 @@ pub(crate) fn lay_table(set: &[u64; 16], n: usize, table: &mut [u64; 16]) -> usi
     if 6 < m {
         return m;
     }
-    counts::at_most(last_of_six(x), m)
+    last_of_six(x).min(m)
 }
 
 // The first feature from i on, and before n, that the table marks for the choices made; else n.
@@ -25,14 +25,12 @@ pub(crate) fn first(table: &[u64; 16], n: usize, i: usize, chosen: usize) -> usi
     requires { (n ≤ 10) × (i ≤ n) × (chosen < 2 ^ i) }
     ensures { (i ≤ result) × (result ≤ n) × First table.now n i chosen result }
 {
-    let mut j = i;
-    while j < n {
+    for j in i..n {
         if marked(table, (1usize << j) + chosen) {
             return j;
         }
-        j += 1;
     }
-    j
+    n
 }
 
 // Whether bit p of the words is 1.
@@ -51,12 +49,10 @@ fn lay_later(set: &[u64; 16], n: usize, table: &mut [u64; 16]) -> usize
     if n <= 6 {
         return n;
     }
-    let mut w = 1;
-    while w < 16 {
+    for w in 1..16 {
         table[w] = later_word(set, w);
-        w += 1;
     }
-    counts::at_most(last_of_ten(table), n)
+    last_of_ten(table).min(n)
 }
 
 // 6 to 10: behind so many features no word marks any. What word 0 marks does not matter.
@@ -106,39 +102,29 @@ fn first_word(set: &[u64; 16], m: usize) -> u64
     requires { m ≤ 6 → Typical (get_or set.now 0 0) set.now }
     ensures { Word set.now 0 result }
 {
-    let t = typical(set, m);
-    let one = t.one;
-    let x = t.word;
-    let a = low_level(set, one, x, 0) % 2 * 2;
-    let b = a + low_level(set, one, x, 1) % 4 * 4;
-    let c = b + low_level(set, one, x, 2) % 16 * 16;
-    let d = c + low_level(set, one, x, 3) % 256 * 256;
-    let e = d + low_level(set, one, x, 4) % 65536 * 65536;
-    e + low_level(set, one, x, 5) % 4294967296 * 4294967296
+    let one = typical(set, m);
+    let a = low_level(set, one, 0) % 2 * 2;
+    let b = a + low_level(set, one, 1) % 4 * 4;
+    let c = b + low_level(set, one, 2) % 16 * 16;
+    let d = c + low_level(set, one, 3) % 256 * 256;
+    let e = d + low_level(set, one, 4) % 65536 * 65536;
+    e + low_level(set, one, 5) % 4294967296 * 4294967296
 }
 
-// A word, and whether it stands for all sixteen of a set.
-#[derive(Clone, Copy)]
-struct Stand {
-    one: bool,
-    word: u64,
-}
-
-// A word that stands for all: the first where six features are enough; else all joined, where no word is other
-// than that or 0, as it is of a guard that asks for later features by `&`.
-fn typical(set: &[u64; 16], m: usize) -> Stand
+// A word that stands for all sixteen, if there is one: the first where six features are enough; else all joined,
+// where no word is other than that or 0, as it is of a guard that asks for later features by `&`.
+fn typical(set: &[u64; 16], m: usize) -> Option<u64>
     requires { m ≤ 6 → Typical (get_or set.now 0 0) set.now }
-    ensures { result.one ≡ true → Typical result.word set.now }
+    ensures { (x : ℕ) → result ≡ Some x → Typical x set.now }
 {
     if m <= 6 {
-        return Stand {
-            one: true,
-            word: set[0],
-        };
+        return Some(set[0]);
     }
     let word = joined(set);
-    let one = repeated(set, word);
-    Stand { one, word }
+    if repeated(set, word) {
+        return Some(word);
+    }
+    None
 }
 
 // All words of the set joined.
@@ -146,10 +132,8 @@ fn joined(set: &[u64; 16]) -> u64
     ensures { Joins result set.now 16 }
 {
     let mut r = 0u64;
-    let mut w = 0;
-    while w < 16 {
-        r = r | set[w];
-        w += 1;
+    for word in set {
+        r |= *word;
     }
     r
 }
@@ -158,46 +142,33 @@ fn joined(set: &[u64; 16]) -> u64
 fn repeated(set: &[u64; 16], x: u64) -> bool
     ensures { result ≡ true → Repeats x set.now 16 }
 {
-    let mut w = 0;
-    while w < 16 {
-        if set[w] != 0 {
-            if set[w] != x {
-                return false;
-            }
-        }
-        w += 1;
-    }
-    true
+    set.iter().all(|word| *word == 0 || *word == x)
 }
 
 // Feature i below 6: whatever the later features are, brought together on the first bits.
-fn low_level(set: &[u64; 16], one: bool, x: u64, i: usize) -> u64
-    requires { (i < 6) × (one ≡ true → Typical x set.now) }
+fn low_level(set: &[u64; 16], one: Option<u64>, i: usize) -> u64
+    requires { (i < 6) × ((x : ℕ) → one ≡ Some x → Typical x set.now) }
     ensures { Level set.now i result }
 {
-    let mut r = across(set, one, x, i);
-    let mut j = 5;
-    while i < j {
-        r = r | (r >> (1u64 << j));
-        j -= 1;
+    let mut r = across(set, one, i);
+    for j in (i + 1..6).rev() {
+        r |= r >> (1u64 << j);
     }
     r
 }
 
 // Bit k: in some word bits k and k + 2 ^ i differ. Where one word stands for all, that tells it.
-fn across(set: &[u64; 16], one: bool, x: u64, i: usize) -> u64
-    requires { (i < 6) × (one ≡ true → Typical x set.now) }
+fn across(set: &[u64; 16], one: Option<u64>, i: usize) -> u64
+    requires { (i < 6) × ((x : ℕ) → one ≡ Some x → Typical x set.now) }
     ensures { (k : ℕ) → 2 ^ i + k < 64 → eqb (bit result k) 0 ≡ all (λ w. eqb (bit (get_or set.now w 0) k) (bit (get_or set.now w 0) (2 ^ i + k))) 16 }
 {
     let step = 1u64 << i;
-    if one {
+    if let Some(x) = one {
         return x ^ (x >> step);
     }
     let mut r = 0u64;
-    let mut w = 0;
-    while w < 16 {
-        r = r | (set[w] ^ (set[w] >> step));
-        w += 1;
+    for word in set {
+        r |= *word ^ (*word >> step);
     }
     r
 }

@@ -2,16 +2,16 @@
 -- decimal numbers that a reader expects. The one idea: a place past the room's end writes nothing, however far past. Assumes nothing.
 use mathlib.Core.Path.{◌≡◌, refl, sym, ap, ◌∙◌}
 use mathlib.Core.List.Memᴰ
-use mathlib.Core.List.{List, [], ◌∷◌, ◌++◌, append_assoc, append-nil, Memᴰ}
+use mathlib.Core.List.{List, [], ◌∷◌, ◌++◌, append_assoc, Memᴰ}
 use mathlib.Core.Logic.{⊎_elim}
 use Prim.Native.Nat.{ℕ, zero, suc, ◌+◌, ◌-◌, ◌*◌, ◌/◌, ◌%◌, ◌^◌, ◌≤◌, ◌<◌, min}
 use native.Mathlib.Omega.{arith}
-use native.Mathlib.Numerals.{add-one}
 use native.Mathlib.Nat.{add-zero, zero-add, eq-zero-or-pos, pow-suc}
 use borrow.Author.Tests.{lt-ltb, le-ltb}
-use lib.ListN.{get_or, length, set, take, drop, length-append, length-set, drop_of_length-le}
-use lib.Seq.{sets, length-sets, sets-eq, set_out, set_at, take-suc, drop-cons, take_all, length-take-le, take_at, drop_at}
+use lib.ListN.{length, set, take, drop, length-append}
+use lib.Seq.{sets, length-sets, sets-eq, set_out, take_all, length-take-le, take_at, drop_at}
 use borrow.Rule.Slice.PartMut.{put_mid, Post-is}
+use Rattle.std.proofs.lemmas.List.{take-append-drop}
 use Rattle.text.specs.Text.{limit, behind, Wrote, digits, decimal}
 
 -- ---- places
@@ -70,54 +70,33 @@ wrote_then {l} {u} {l'} {v} {l''} {at} {at'} {at''} a b =
 
 -- ---- many bytes at once
 
--- the first i bytes are copied, and behind them stands what stood there
-pub record Copied (first bytes : List ℕ) (i : ℕ) (room : List ℕ) : Type 0 where
-  pub long : length room ≡ length first
-  pub is : room ≡ take i bytes ++ drop i first
-
-pub copied_none : (first bytes : List ℕ) → Copied first bytes 0 first
-copied_none first bytes = record { long = refl; is = refl }
-
-module _ {first bytes room : List ℕ} {i : ℕ} (c : Copied first bytes i room) where
-  pub copied_more : i < length bytes → length first ≡ length bytes → Copied first bytes (i + 1) (set room i (get_or bytes i 0))
-  copied_more h g =
-      let a : take (i + 1) bytes ≡ take i bytes ++ (get_or bytes i 0 ∷ []) = rw add-one (take-suc bytes i 0 h) in
-      let b : drop i first ≡ get_or first i 0 ∷ drop (i + 1) first = rw add-one (drop-cons first i 0 (omega arith)) in
-      record {
-        long = simp length-set c.long;
-        is =
-            rw (c.is, a, b, set_at (take i bytes) (get_or first i 0) (drop (i + 1) first) (get_or bytes i 0) i (length-take-le i bytes (omega arith)))
-            (sym (append_assoc (take i bytes) (get_or bytes i 0 ∷ []) (drop (i + 1) first)));
-      }
-
-  pub copied_all : length bytes ≤ i → length first ≡ length bytes → room ≡ bytes
-  copied_all h g =
-      let z : length first ≤ i = omega arith in
-      c.is ∙ rw (take_all i bytes h, drop_of_length-le first z) (append-nil bytes)
-
 -- past the room's end nothing is laid
 pub wrote_past : {l vs : List ℕ} {at at' : ℕ} → length l ≤ limit → at' ≡ behind at (length vs) → length l ≤ at → Wrote l at vs l at'
 wrote_past {l} {vs} {at} h m g = record { short = h; moved = m; became = sym (sets_past l at vs g) }
 
--- a text that fits, in the place of what stood there
-pub wrote_copied : {l vs l' : List ℕ} {at at' : ℕ} → length l ≤ limit → at' ≡ behind at (length vs) → at + length vs ≤ length l
-    → l' ≡ take at l ++ vs ++ drop (at + length vs) l → Wrote l at vs l' at'
-wrote_copied {l} {vs} {l'} {at} h m g e = record { short = h; moved = m; became = e ∙ sym (sets-eq vs l at g) }
+-- as many bytes as fit, as a loan of a part of the room gives it back: what does not fit would be laid past the room's end
+pub wrote_fitting : {l vs ys : List ℕ} {at at' f : ℕ} → length l ≤ limit → at' ≡ behind at (length vs) → f ≡ min (length vs) (length l - at) → at < length l
+    → ys ≡ take f vs → Wrote l at vs (put_mid at (at + f - at) l ys) at'
+wrote_fitting {l} {vs} {ys} {at} {at'} {f} h m e lt t = record { short = h; moved = m; became = laid ∙ sym rest }
+  where
+    long : length (take f vs) ≡ f
+    long = length-take-le f vs (omega arith)
 
--- the same as a loan of a part of the room gives it back
-pub wrote_part : {l vs ys : List ℕ} {at at' : ℕ} → length l ≤ limit → at' ≡ behind at (length vs) → at + length vs ≤ length l → ys ≡ vs
-    → Wrote l at vs (put_mid at (at + length vs - at) l ys) at'
-wrote_part {l} {vs} {ys} {at} h m g e = wrote_copied h m g (rw (e, Post-is at (at + length vs) l (omega arith)) (sym (append_assoc (take at l) vs (drop (at + length vs) l))))
+    laid : put_mid at (at + f - at) l ys ≡ sets l at (take f vs)
+    laid =
+        rw (t, Post-is at (at + f) l (omega arith), sets-eq (take f vs) l at (omega (arith, long)), long)
+        (sym (append_assoc (take at l) (take f vs) (drop (at + f) l)))
 
--- ---- byte by byte
-
--- one byte more of a list of bytes
-pub bytes_more : {l l' l'' : List ℕ} {at at' at'' : ℕ} (s : List ℕ) (i : ℕ) → Wrote l at (take i s) l' at' → Wrote l' at' (get_or s i 0 ∷ []) l'' at'' → i < length s → Wrote l at (take (i + 1) s) l'' at''
-bytes_more s i w v h = rw (add-one, take-suc s i 0 h) (wrote_then w v)
-
--- all of a list of bytes
-pub bytes_all : {l l' : List ℕ} {at at' : ℕ} (s : List ℕ) (i : ℕ) → Wrote l at (take i s) l' at' → length s ≤ i → Wrote l at s l' at'
-bytes_all s i w h = rw (take_all i s h) at w
+    rest : sets l at vs ≡ sets l at (take f vs)
+    rest =
+        ⊎_elim
+        (λ all. let whole : take f vs ≡ vs = take_all f vs (omega arith) in rw whole)
+        (λ less.
+        let past : sets (sets l at (take f vs)) (at + f) (drop f vs) ≡ sets l at (take f vs) =
+        sets_past (sets l at (take f vs)) (at + f) (drop f vs) (omega (arith, length-sets l at (take f vs))) in
+        let both : sets l at (take f vs ++ drop f vs) ≡ sets l at (take f vs) = sets_append l at (take f vs) (drop f vs) ∙ rw long past in
+        rw (take-append-drop f vs) at both)
+        (eq-zero-or-pos (length vs - f))
 
 -- ---- what a text that fits leaves
 

@@ -30,24 +30,8 @@ pub fn put_bytes(room: &mut [u8], at: usize, bytes: &[u8]) -> usize
     if room.len() <= at {
         return next;
     }
-    let rest = room.len() - at;
-    if bytes.len() <= rest {
-        copy(&mut room[at..at + bytes.len()], bytes);
-        return next;
-    }
-    put_some(room, at, bytes)
-}
-
-// Lays all of `bytes`, byte by byte.
-fn put_some(room: &mut [u8], at: usize, bytes: &[u8]) -> usize
-    ensures { Wrote room.old at bytes.now room.new result }
-{
-    let mut next = at;
-    let mut k = 0;
-    while k < bytes.len() {
-        next = put(room, next, bytes[k]);
-        k += 1;
-    }
+    let fits = bytes.len().min(room.len() - at);
+    room[at..at + fits].copy_from_slice(&bytes[..fits]);
     next
 }
 
@@ -55,25 +39,7 @@ fn put_some(room: &mut [u8], at: usize, bytes: &[u8]) -> usize
 pub fn place_behind(at: usize, n: usize) -> usize
     ensures { result ≡ behind at n }
 {
-    if LIMIT <= at {
-        return at;
-    }
-    if LIMIT - at < n {
-        return LIMIT;
-    }
-    at + n
-}
-
-// Lays all of `bytes` into a room that is as long.
-fn copy(room: &mut [u8], bytes: &[u8])
-    requires { length room.old ≡ length bytes.now }
-    ensures { room.new ≡ bytes.now }
-{
-    let mut i = 0;
-    while i < bytes.len() {
-        room[i] = bytes[i];
-        i += 1;
-    }
+    at.saturating_add(n).min(LIMIT).max(at)
 }
 
 // The digit n, below 10, as a byte.
@@ -84,25 +50,15 @@ fn digit(n: usize) -> u8
     n as u8 + 48
 }
 
-// Lays n in decimal digits, without leading zeros. Numbers below 1000 need no call that nests.
+// Lays n in decimal digits, without leading zeros. Numbers below 1000 need no call that nests; from 1000 on it
+// calls itself on what stands before the last digit, so at most 17 deep.
 pub fn put_number(room: &mut [u8], at: usize, n: usize) -> usize
     ensures { Wrote room.old at (decimal n) room.new result }
 {
     if n < 1000 {
         return put_small(room, at, n);
     }
-    put_long(room, at, n)
-}
-
-// The same for every n: from 1000 on it calls itself on what stands before the last digit, so at most 18
-// deep.
-fn put_long(room: &mut [u8], at: usize, n: usize) -> usize
-    ensures { Wrote room.old at (decimal n) room.new result }
-{
-    if n < 1000 {
-        return put_small(room, at, n);
-    }
-    let next = put_long(room, at, n / 10);
+    let next = put_number(room, at, n / 10);
     put(room, next, digit(n % 10))
 }
 

@@ -1,12 +1,7 @@
 -- Names and actions: how the answer is found from place to place, and what it tells. Assumes nothing.
-use mathlib.Core.Path.{◌≡◌, refl, sym, ap, ◌∙◌}
-use mathlib.Core.Bool.{Bool, true, false, ◌&&◌, and_assoc, and-true, and-false, and-eq-true_iff, true≢false}
-use mathlib.Core.List.{List, [], ◌∷◌}
-use Prim.Native.Nat.{ℕ, ◌+◌, ◌≤◌, ◌<◌}
-use native.Mathlib.Omega.{arith}
-use borrow.Author.Tests.{le-leb, lt-leb, leb-true, ne_eqb}
-use lib.Dec.{leb}
-use lib.ListN.{length, get_or, drop, drop_of_length-le}
+use Rattle.std.proofs.Common.{◌≡◌, refl, sym, ap, ◌∙◌, Bool, true, false, ◌&&◌, true≢false, List, [], ◌∷◌, ℕ, ◌+◌, ◌≤◌, ◌<◌, arith, le-leb, ne_eqb, length, get_or, drop, drop_of_length-le, leb-true, leb}
+use mathlib.Core.Bool.{and_assoc, and-true, and-false, and-eq-true_iff}
+use borrow.Author.Tests.{lt-leb}
 use Rattle.fields.specs.Bytes.{is_letter, is_name_byte, all_name_bytes, is_name, is_action}
 use Rattle.fields.specs.Cutting.{Clear}
 use Rattle.fields.proofs.Parts.{headed}

@@ -4,16 +4,13 @@
 ghost use Rattle.std.specs.Prelude.{◌≡◌, List, ◌∷◌, ◌+◌, ◌-◌, ◌<◌};
 ghost use Rattle.fields.specs.Bytes.{all_name_bytes, is_name, is_action, read_state};
 
-use fields::Number;
-
+// All bytes are looked at, without a branch for each.
 fn all_name_bytes(s: &[u8]) -> bool
     ensures { result ≡ all_name_bytes s.now }
 {
     let mut good = true;
-    let mut i = 0;
-    while i < s.len() {
-        good = good & fields::is_name_byte(s[i]);
-        i += 1;
+    for b in s {
+        good &= fields::is_name_byte(*b);
     }
     good
 }
@@ -48,51 +45,30 @@ pub fn is_action(s: &[u8]) -> bool
 }
 
 // The state that s spells.
-pub fn read_state(s: &[u8]) -> Number
+pub fn read_state(s: &[u8]) -> Option<usize>
     ensures { result ≡ read_state s.now }
 {
-    if s.len() == 1 {
-        return one_digit(s[0]);
+    match s {
+        [a] => one_digit(*a),
+        [a, b] => two_digits(*a, *b),
+        _ => None,
     }
-    if s.len() == 2 {
-        return two_digits(s[0], s[1]);
-    }
-    Number::Bad
 }
 
-fn wide(b: u8) -> usize
-    ensures { result ≡ b }
-{
-    b as usize
-}
-
-fn one_digit(a: u8) -> Number
+fn one_digit(a: u8) -> Option<usize>
     ensures { result ≡ read_state (a ∷ List.[]) }
 {
-    if a < b'0' {
-        return Number::Bad;
+    if a.is_ascii_digit() {
+        return Some(usize::from(a - b'0'));
     }
-    if b'9' < a {
-        return Number::Bad;
-    }
-    Number::Of(wide(a) - 48)
+    None
 }
 
-fn two_digits(a: u8, b: u8) -> Number
+fn two_digits(a: u8, b: u8) -> Option<usize>
     ensures { result ≡ read_state (a ∷ b ∷ List.[]) }
 {
-    if a <= b'0' {
-        return Number::Bad;
-    }
-    if b'9' < a {
-        return Number::Bad;
-    }
-    if b < b'0' {
-        return Number::Bad;
-    }
-    if b'9' < b {
-        return Number::Bad;
-    }
-    let v = (wide(a) - 48) * 10 + (wide(b) - 48);
-    if v <= 63 { Number::Of(v) } else { Number::Bad }
+    let tens = one_digit(a)?;
+    let ones = one_digit(b)?;
+    let v = tens * 10 + ones;
+    if 10 <= v && v <= 63 { Some(v) } else { None }
 }

@@ -5,8 +5,8 @@ use Rattle.calls.specs.Shown.{text, line}
 use borrow.Author.Rules.{rules}
 use Rattle.calls.proofs.put_answer.Goals as goal
 
-pub returns-in-Done : goal.returns-in-Done
-returns-in-Done c = rw c.in-Done.is (text refl)
+pub returns-in-Ok : goal.returns-in-Ok
+returns-in-Ok c = rw c.in-Ok.is (text refl)
 
-pub returns-in-Refused : goal.returns-in-Refused
-returns-in-Refused c = rw c.in-Refused.is (line c.put_refusal.ensures (λ l. refusal_whole c.put_refusal.ensures (search rules) (search rules) (search rules) l))
+pub returns-in-Err : goal.returns-in-Err
+returns-in-Err c = rw c.in-Err.is (line c.put_refusal.ensures (λ l. refusal_whole _ c.put_refusal.ensures (search rules) (search rules) l))

@@ -1,11 +1,6 @@
--- `number`: the digits passed so far come to n. The measure is what is left of the word. Assumes nothing.
-use Prim.Native.Nat.{◌-◌}
-use lib.ListN.{length}
+-- `number`: the digits passed so far come to n. Assumes nothing.
 use Rattle.console.proofs.Spelt.{Spelt}
 use Rattle.console.proofs.number.Given as goal
 
-abbrev pub invariant-loop-i : goal.invariant-loop-i
-invariant-loop-i l = Spelt l.word l.i l.n
-
-abbrev pub decreases-loop-i : goal.decreases-loop-i
-decreases-loop-i l = length l.word - l.i
+abbrev pub invariant-loop-b : goal.invariant-loop-b
+invariant-loop-b l = Spelt l.word l.b-index l.n

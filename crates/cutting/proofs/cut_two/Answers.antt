@@ -1,13 +1,17 @@
 -- `cut_two`. Each return by the law for the tabs found up to it. Assumes nothing.
-use native.Mathlib.Omega.{arith}
+use Rattle.std.proofs.Common.{arith}
 use Rattle.cutting.proofs.Counted.{two_no, two_more, two_yes}
 use Rattle.cutting.proofs.cut_two.Goals as goal
 
-pub returns-then-l-b : goal.returns-then-l-b
-returns-then-l-b c = two_no c.find-b.ensures (omega arith)
+pub returns-in_err-b : goal.returns-in_err-b
+returns-in_err-b c = rw c.from_residual.ensures (two_no c.in_err-b.ensures (omega arith))
 
-pub returns-then-c-l : goal.returns-then-c-l
-returns-then-c-l c = two_more c.find-b.ensures (omega arith) c.find-c.ensures (omega arith)
+pub returns-in-Some : goal.returns-in-Some
+returns-in-Some c =
+    let b = c.in_ok-b.ensures in
+    two_more b.0 b.1 c.in-Some.ensures.0 c.in-Some.ensures.1
 
-pub returns : goal.returns
-returns c = two_yes c.find-b.ensures (omega arith) c.find-c.ensures (omega arith)
+pub returns-in-None : goal.returns-in-None
+returns-in-None c =
+    let b = c.in_ok-b.ensures in
+    two_yes b.0 b.1 c.in-None.ensures (omega arith)

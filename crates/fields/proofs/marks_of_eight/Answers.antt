@@ -3,4 +3,4 @@ use Rattle.fields.proofs.Words.{first_marked}
 use Rattle.fields.proofs.marks_of_eight.Goals as goal
 
 pub returns : goal.returns
-returns c = first_marked c.wrapping_sub_u64.result c.eight.ensures c.wide.ensures.0 c.wide.ensures.1 c.wrapping_sub_u64.ensures.value
+returns c = first_marked c.eight.ensures c.from.ensures c.ranges.m.fits

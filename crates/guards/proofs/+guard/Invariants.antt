@@ -1,8 +1,7 @@
 -- The four readers meet their contracts. Measure: twice the bytes left, and one more where the next call may be at the same place. The chain's
 -- loop keeps `Chained`. Each return is one law of Returns, in `read_guard` of the slices taken anew (`anew`). Assumes nothing.
-use Prim.Native.Nat.{◌+◌, ◌-◌, ◌*◌, min}
-use lib.ListN.{length}
-use Rattle.guards.specs.Reading.{names_of}
+use Rattle.std.proofs.Common.{◌+◌, ◌-◌, ◌*◌, length}
+use Rattle.guards.specs.Reading.{names_in}
 use Rattle.guards.proofs.Returns.{Chained}
 use Rattle.guards.proofs.+guard.Given as goal
 
@@ -19,7 +18,7 @@ abbrev pub decreases-read_open : goal.decreases-read_open
 decreases-read_open l = 2 * (length l.field.now - l.at) + 1
 
 abbrev pub invariant-read_chain-loop-next : goal.invariant-read_chain-loop-next
-invariant-read_chain-loop-next l = Chained l.field (names_of l.text l.names (min l.count 10)) l.left l.op l.from l.initial.set l.at l.set
+invariant-read_chain-loop-next l = Chained l.field (names_in l.names) l.left l.op l.from l.initial.set l.at l.set
 
 abbrev pub decreases-read_chain-loop-next : goal.decreases-read_chain-loop-next
 decreases-read_chain-loop-next l = length l.field - l.at

@@ -1,9 +1,6 @@
-use native.Mathlib.Omega.{arith}
-use Rattle.guards.proofs.Finding.{left_all, left_here, left_less, left_none}
+use Rattle.std.proofs.Common.{arith}
+use Rattle.guards.proofs.Finding.{left_here, left_less, left_none}
 use Rattle.guards.proofs.find_name.Goals as goal
-
-pub loop-i-init : goal.loop-i-init
-loop-i-init c = left_all _ _ _ c.at_most-i.ensures
 
 pub returns-then-stands_at : goal.returns-then-stands_at
 returns-then-stands_at c = left_here _ c.loop-i.invariant (omega arith) c.stands_at.ensures c.if-stands_at.true

@@ -1,7 +1,5 @@
 -- `read_plain` meets its contract: each return is one law of Returns. Assumes nothing.
-use mathlib.Core.Path.{sym, ◌∙◌}
-use native.Mathlib.Omega.{arith}
-use borrow.Author.Tests.{not-true, not-false}
+use Rattle.std.proofs.Common.{sym, ◌∙◌, arith}
 use Rattle.guards.proofs.Returns.{guard_always, guard_fault, guard_named, guard_never}
 use Rattle.guards.proofs.read_plain.Goals as goal
 
@@ -12,7 +10,7 @@ pub returns-then-b-eq49 : goal.returns-then-b-eq49
 returns-then-b-eq49 c left h2 h3 = guard_always _ _ _ _ (omega arith) _ c.if-b-eq49.true c.set_always.ensures
 
 pub returns-then-not-is_letter : goal.returns-then-not-is_letter
-returns-then-not-is_letter c left h2 h3 = guard_fault _ _ _ _ (omega arith) c.if-b-eq48.false c.if-b-eq49.false h2 h3 _ _ (sym c.is_letter.ensures ∙ not-true _ c.if-not-is_letter.true-raw) c.refuse.ensures
+returns-then-not-is_letter c left h2 h3 = guard_fault _ _ _ _ (omega arith) c.if-b-eq48.false c.if-b-eq49.false h2 h3 _ _ (sym c.is_letter.ensures ∙ c.if-not-is_letter.true) c.refuse.ensures
 
 pub returns : goal.returns
-returns c left h2 h3 = guard_named _ _ _ _ (omega arith) c.if-b-eq48.false c.if-b-eq49.false h2 h3 c.read_name.result _ (sym c.is_letter.ensures ∙ not-false _ c.if-not-is_letter.false-raw) c.read_name.ensures
+returns c left h2 h3 = guard_named _ _ _ _ (omega arith) c.if-b-eq48.false c.if-b-eq49.false h2 h3 c.read_name.result _ (sym c.is_letter.ensures ∙ c.if-not-is_letter.false) c.read_name.ensures

@@ -1,11 +1,7 @@
 -- `count` meets its contract. The loop's invariant: n is the count of the products in the words passed. Assumes nothing.
-use mathlib.Core.Path.{◌≡◌}
-use Prim.Native.Nat.{◌≤◌, ◌*◌, ◌-◌}
+use Rattle.std.proofs.Common.{◌≡◌, ◌*◌}
 use Rattle.products.specs.Sets.{count_to}
 use Rattle.members.proofs.count.Given as goal
 
-abbrev pub invariant-loop-i : goal.invariant-loop-i
-invariant-loop-i l = (l.i ≤ 16) × (l.n ≡ count_to l.s (l.i * 64))
-
-abbrev pub decreases-loop-i : goal.decreases-loop-i
-decreases-loop-i l = 16 - l.i
+abbrev pub invariant-loop-word : goal.invariant-loop-word
+invariant-loop-word l = l.n ≡ count_to l.fn.s (l.word-index * 64)

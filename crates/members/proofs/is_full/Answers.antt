@@ -1,10 +1,6 @@
 -- `is_full` meets its contract: what it says to be the same as the full set. Assumes nothing.
-use Prim.Native.Nat.{ℕ, ◌<◌}
-use lib.ListN.{get_or}
-use mir.Val.{Fits}
-use mir.Syntax.{w64}
+use Rattle.std.proofs.Common.{ℕ, ◌<◌, get_or, rules, Fits, w64}
 use Rattle.members.proofs.Joined.{full_is, lacks_is}
-use borrow.Author.Rules.{rules}
 use Rattle.members.proofs.is_full.Goals as goal
 
 pub returns : goal.returns

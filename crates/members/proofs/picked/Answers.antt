@@ -1,5 +1,5 @@
 -- `picked` meets its contract: the laws of `&` and `^` by bits. Assumes nothing.
-use native.Mathlib.Omega.{arith}
+use Rattle.std.proofs.Common.{arith}
 use Rattle.products.proofs.Bits.{bit_and_lem, bit_without}
 use Rattle.members.proofs.picked.Goals as goal
 

@@ -1,12 +1,9 @@
 -- `with_features` meets its contract: each word by its computed test. Assumes nothing.
-use native.Mathlib.Omega.{arith}
+use Rattle.std.proofs.Common.{arith}
 use Rattle.products.specs.Orders.{bits}
 use Rattle.products.proofs.Bits.{passes}
-use Rattle.members.proofs.Layers.{features_word, features_past, at_six}
+use Rattle.members.proofs.Layers.{features_word, features_past}
 use Rattle.members.proofs.with_features.Goals as goal
-
-pub returns-then-n-gt6 : goal.returns-then-n-gt6
-returns-then-n-gt6 c = features_past c.if-n-gt6.true
 
 pub returns-in-0 : goal.returns-in-0
 unfolding passes bits
@@ -32,6 +29,9 @@ pub returns-in-5 : goal.returns-in-5
 unfolding passes bits
 returns-in-5 c = features_word _ 5 tt c.in-5.is
 
-pub returns-in_default : goal.returns-in_default
+pub returns-in-6 : goal.returns-in-6
 unfolding passes bits
-returns-in_default c = features_word _ 6 tt (at_six (omega arith) c.if-n-gt6.false)
+returns-in-6 c = features_word _ 6 tt c.in-6.is
+
+pub returns-in_default : goal.returns-in_default
+returns-in_default c = features_past (omega arith)

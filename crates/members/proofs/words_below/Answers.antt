@@ -1,16 +1,9 @@
 -- `words_below` meets its contract: each number by its computed test. Assumes nothing.
-use mathlib.Core.Logic.{inl, inr}
-use native.Mathlib.Omega.{arith}
+use Rattle.std.proofs.Common.{arith, inr}
 use Rattle.products.specs.Orders.{bits}
 use Rattle.products.proofs.Bits.{passes}
 use Rattle.members.proofs.Layers.{words_have}
 use Rattle.members.proofs.words_below.Goals as goal
-
-pub returns-in-0 : goal.returns-in-0
-returns-in-0 c = (omega arith, inl (omega (arith, c.in-0.is)))
-
-pub returns-in-1 : goal.returns-in-1
-returns-in-1 c = (omega arith, inl (omega (arith, c.in-1.is)))
 
 pub returns-in-2 : goal.returns-in-2
 unfolding passes bits

@@ -1,5 +1,5 @@
 -- `before` meets its contract: from, then to, then the action, a law for each return. Assumes nothing.
-use mathlib.Core.Path.{ap₂, ◌∙◌}
+use Rattle.std.proofs.Common.{ap₂, ◌∙◌}
 use Rattle.ordering.specs.Ordering.{less_bytes}
 use Rattle.ordering.proofs.Places.{before_from, before_to, before_action}
 use Rattle.ordering.proofs.before.Goals as goal

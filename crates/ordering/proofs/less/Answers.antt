@@ -1,5 +1,5 @@
 -- `less` meets its contract: one law for each return, by how many bytes both share. Assumes nothing.
-use native.Mathlib.Omega.{arith}
+use Rattle.std.proofs.Common.{arith}
 use Rattle.ordering.proofs.Places.{less_short, less_long, less_stop}
 use Rattle.ordering.proofs.less.Goals as goal
 

@@ -1,13 +1,10 @@
-use native.Mathlib.Omega.{arith}
-use Rattle.ordering.proofs.Turns.{orders_start, orders_upto}
-use borrow.Author.Rules.{rules}
+use Rattle.std.proofs.Common.{arith}
+use Rattle.ordering.proofs.Laws.{orders_few}
+use Rattle.ordering.proofs.Turns.{orders_start}
 use Rattle.ordering.proofs.order_moves.Goals as goal
 
 pub loop-i-init : goal.loop-i-init
-loop-i-init c = (search rules, search rules, orders_start _)
+loop-i-init c = orders_start _
 
-pub loop-i-preserved : goal.loop-i-preserved
-loop-i-preserved c = (search rules, search rules, c.order_row-r.ensures.0 _ c.all_places.ensures c.loop-i.invariant.2)
-
-pub returns : goal.returns
-returns c = orders_upto c.loop-i.invariant.2 (omega arith)
+pub order_row-ordered-requires : goal.order_row-ordered-requires
+order_row-ordered-requires c = (orders_few c.loop-i.invariant, omega arith, omega arith, omega arith)

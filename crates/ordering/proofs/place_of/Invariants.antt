@@ -1,5 +1,5 @@
 -- `place_of` meets its contract. The invariant: x is before none of the rows in front of `low`, and before all from `high` on. Assumes nothing.
-use Prim.Native.Nat.{◌-◌, ◌≤◌}
+use Rattle.std.proofs.Common.{◌-◌, ◌≤◌}
 use Rattle.ordering.specs.Ordering.{key_at}
 use Rattle.ordering.specs.Inside.{Level, Between}
 use Rattle.ordering.proofs.place_of.Given as goal

@@ -4,11 +4,11 @@ use mathlib.Core.Path.{sym, ◌∙◌}
 use native.Mathlib.Omega.{arith}
 use Rattle.products.proofs.Bits.{passes, all_below}
 use Rattle.products.proofs.Laws.{full_has}
-use Rattle.products.proofs.Filled.{filled_has, filled_first, all_has}
+use Rattle.products.proofs.Filled.{first_alone, all_has}
 use Rattle.products.proofs.all.Goals as goal
 
 pub returns-then-n-le6 : goal.returns-then-n-le6
-returns-then-n-le6 c = filled_has (filled_first _ c.if-n-le6.true c.first_word-word.ensures) (omega arith)
+returns-then-n-le6 c = first_alone _ c.if-n-le6.true c.first_word-word.ensures
 
 pub returns-in-7 : goal.returns-in-7
 unfolding passes

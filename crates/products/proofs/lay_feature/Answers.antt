@@ -3,11 +3,11 @@ use mathlib.Core.Path.{sym, ◌∙◌}
 use native.Mathlib.Omega.{arith}
 use Rattle.products.proofs.Bits.{passes, low_bits, past_bit}
 use Rattle.products.proofs.Laws.{empty_has}
-use Rattle.products.proofs.Filled.{filled_has, filled_alike, feature_has}
+use Rattle.products.proofs.Filled.{all_alike, feature_has}
 use Rattle.products.proofs.lay_feature.Goals as goal
 
 pub returns-then-i-lt6 : goal.returns-then-i-lt6
-returns-then-i-lt6 c = filled_has (filled_alike _ (λ w k lk. c.mask-word.ensures k lk ∙ sym (low_bits w k _ c.if-i-lt6.true))) (omega arith)
+returns-then-i-lt6 c = all_alike _ _ (λ w k lk. c.mask-word.ensures k lk ∙ sym (low_bits w k _ c.if-i-lt6.true))
 
 pub returns-in-6 : goal.returns-in-6
 unfolding passes

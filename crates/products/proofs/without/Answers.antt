@@ -1,14 +1,20 @@
-use mathlib.Core.List.{[]}
-use Prim.Native.Nat.{◌-◌}
-use lib.Bits.{bit_and, bit_xor}
-use Rattle.products.proofs.Bits.{bit_without}
-use Rattle.products.proofs.Filled.{filled_has, by_words}
+-- `without` meets its contract: each word has the products that the first word has and the second has not. Assumes nothing.
+use mathlib.Core.Path.{◌≡◌, refl}
+use Prim.Native.Nat.{◌/◌}
+use native.Mathlib.Omega.{arith}
+use borrow.Author.Rules.{elem_Fits}
+use lib.Bits.{bit_and}
+use lib.ListN.{get_or}
+use Rattle.std.proofs.Common.{rules, w64}
+use Rattle.std.specs.Int.{bit_not}
+use Rattle.products.proofs.Bits.{bit_and_not}
+use Rattle.products.specs.Sets.{has}
+use Rattle.products.proofs.Filled.{made}
 use Rattle.products.proofs.without.Goals as goal
 
-pub loop-i-preserved : goal.loop-i-preserved
-loop-i-preserved c =
-    by_words (λ x y z. bit_xor x (bit_and x y)) (λ x y z. x - y) (λ x y z. bit_without x y) _ _ []
-    c.loop-i.invariant c.loop-i-test.true
-
 pub returns : goal.returns
-returns c = filled_has c.loop-i.invariant c.loop-i-test.false
+unfolding has
+returns c p lp =
+    rw (made _ (λ f. (f.0.now ≡ c.args.a) × (f.1.now ≡ c.args.b)) (λ w x. x ≡ bit_and (get_or c.args.a w 0) (bit_not w64 (get_or c.args.b w 0)))
+    (λ f w x g lent call. search rules) _ (refl, refl) c.from_fn.ensures.items (p / 64) (omega arith))
+    (bit_and_not _ _ _ (elem_Fits w64 w64 _ _ (p / 64) c.well_formed.1.0.1.1 tt).fits (omega arith))

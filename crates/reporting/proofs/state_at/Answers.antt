@@ -1,5 +1,5 @@
 -- `state_at` meets its contract: where no stop line is for the state, the products that leave it are all that is excused. Assumes nothing.
-use mathlib.Core.Path.{◌∙◌}
+use Rattle.std.proofs.Common.{◌∙◌}
 use Rattle.reporting.proofs.Loops.{none_declared}
 use Rattle.reporting.proofs.state_at.Goals as goal
 

@@ -4,14 +4,14 @@ use Rattle.running.proofs.Shown.{place_told, refusal_told}
 use borrow.Author.Rules.{rules}
 use Rattle.running.proofs.put_called.Goals as goal
 
-pub shape_of-room-in-Done : goal.shape_of-room-in-Done
-shape_of-room-in-Done c = wrote_long c.put_place.ensures
+pub shape_of-room-in-Ok : goal.shape_of-room-in-Ok
+shape_of-room-in-Ok c = wrote_long c.put_place.ensures
 
-pub returns-in-Done : goal.returns-in-Done
-returns-in-Done c = place_told _ c.in-Done.is c.put_place.ensures
+pub returns-in-Ok : goal.returns-in-Ok
+returns-in-Ok c = place_told _ c.in-Ok.is c.put_place.ensures
 
-pub shape_of-room-in-Refused : goal.shape_of-room-in-Refused
-shape_of-room-in-Refused c = wrote_long c.put_refusal.ensures
+pub shape_of-room-in-Err : goal.shape_of-room-in-Err
+shape_of-room-in-Err c = wrote_long c.put_refusal.ensures
 
-pub returns-in-Refused : goal.returns-in-Refused
-returns-in-Refused c = refusal_told _ _ c.in-Refused.is c.put_refusal.ensures (search rules) (search rules) (search rules)
+pub returns-in-Err : goal.returns-in-Err
+returns-in-Err c = refusal_told _ _ c.in-Err.is c.put_refusal.ensures (search rules) (search rules)

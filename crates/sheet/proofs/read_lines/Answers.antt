@@ -1,13 +1,13 @@
-use mathlib.Core.Path.{refl, ◌∙◌}
-use native.Mathlib.Omega.{arith}
+use Rattle.std.proofs.Common.{refl, ◌∙◌, arith}
+use Rattle.sheet.proofs.Lines.{passed_up}
 use Rattle.sheet.proofs.Whole.{going_start, line_ends, going_refused, going_on, going_done}
 use Rattle.sheet.proofs.read_lines.Goals as goal
 
 pub loop-at-init : goal.loop-at-init
-loop-at-init c = (rw c.no_lines-c.ensures (going_start c.requires.blank_and_ended.0 c.requires.blank_and_ended.1), refl, refl, refl, refl)
+loop-at-init c = (going_start c.default-c.result c.default-c.ensures c.requires.blank_and_ended.0 c.requires.blank_and_ended.1, refl, refl, refl, refl)
 
-pub read_line-r-requires : goal.read_line-r-requires
-read_line-r-requires c =
+pub read_line-requires : goal.read_line-requires
+read_line-requires c =
     let z = line_ends c.loop-at.invariant.0
     c.loop-at-test.true
     c.find-end.ensures in
@@ -16,14 +16,13 @@ read_line-r-requires c =
     let p = c.requires.tables_suffice in
     record { line_within = (z.0, omega arith, light); tables_suffice = (omega (arith, y.1, p.0), omega (arith, y.2, p.1), omega (arith, y.3, p.2), omega (arith, y.4, p.3)) }
 
-pub returns-in_default : goal.returns-in_default
-returns-in_default c =
+pub returns-in_err-c : goal.returns-in_err-c
+returns-in_err-c c =
     going_refused
     c.loop-at.invariant.0
     c.loop-at-test.true
     c.find-end.ensures
-    c.read_line-r.ensures c.in_default.is (c.pass_up.ensures _
-    c.in_default.is)
+    c.read_line.ensures c.in_err-c.was (passed_up _ _ c.from_residual.ensures.1)
 
 pub overflow_add-at : goal.overflow_add-at
 overflow_add-at c =
@@ -56,11 +55,11 @@ loop-at-preserved c =
       going_on y.0
           c.loop-at-test.true
           c.find-end.ensures
-          c.read_line-r.ensures c.in-Kept.is,
-      c.moves-1.given ∙ y.1,
-      c.move_guards-1.given ∙ y.2,
-      c.stops-1.given ∙ y.3,
-      c.stop_guards-1.given ∙ y.4,
+          c.read_line.ensures c.in_ok-c.was,
+      c.read_line.auto.moves ∙ y.1,
+      c.read_line.auto.move_guards ∙ y.2,
+      c.read_line.auto.stops ∙ y.3,
+      c.read_line.auto.stop_guards ∙ y.4,
     )
 
 pub returns : goal.returns

@@ -1,8 +1,6 @@
 -- `read_lines` meets its contract. The invariant: the tables and marks stand for what the lines so far say, and what is left to read from there is
 -- what all lines read as. The measure is what is left of the bytes. Assumes nothing.
-use mathlib.Core.Path.{◌≡◌}
-use Prim.Native.Nat.{◌-◌}
-use lib.ListN.{length}
+use Rattle.std.proofs.Common.{◌≡◌, ◌-◌, length}
 use Rattle.sheet.specs.Tables.{tables}
 use Rattle.sheet.proofs.Whole.{Going}
 use Rattle.sheet.proofs.read_lines.Given as goal

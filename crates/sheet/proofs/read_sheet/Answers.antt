@@ -1,5 +1,5 @@
 -- `read_sheet` meets its contract: 256 and 64 rows are enough for every text. Assumes nothing.
-use native.Mathlib.Omega.{arith}
+use Rattle.std.proofs.Common.{arith}
 use Rattle.sheet.proofs.Whole.{blank_own, blank_sized}
 use Rattle.sheet.proofs.read_sheet.Goals as goal
 

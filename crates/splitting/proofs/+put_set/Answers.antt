@@ -1,26 +1,7 @@
 use native.Mathlib.Omega.{arith}
-use borrow.Author.Rules.{rules}
-use Rattle.splitting.proofs.Returns.{anew, laid_leaf, laid_from, laid_met, laid_split, chosen_small, chosen_below, below_later}
+use Rattle.splitting.proofs.Returns.{laid_leaf, laid_from, laid_met, laid_split, chosen_small, chosen_below, below_later}
 use Rattle.splitting.proofs.+put_set.Goals as goal
 use Rattle.splitting.proofs.+put_set.Goals.{then-m-x, else-m-x, then-m-y, else-m-y}
-
-pub overflow_shl-given : goal.overflow_shl-given
-overflow_shl-given t c = omega (arith, c.requires.0, c.requires.1)
-
-pub overflow_add-given : goal.overflow_add-given
-overflow_add-given t c = let pre = c.requires in omega (arith, chosen_small _ _ _ pre.2 pre.1 pre.0)
-
-pub offset_bounds-names-j : goal.offset_bounds-names-j
-offset_bounds-names-j t c = let ten = c.requires.0 in let left = c.requires.1 in search rules
-
-pub bounds-names-j : goal.bounds-names-j
-bounds-names-j t c = omega (arith, c.requires.0, c.requires.1)
-
-pub overflow_add-j : goal.overflow_add-j
-overflow_add-j t c = omega (arith, c.requires.0, c.requires.1)
-
-pub first-x-requires : goal.first-x-requires
-first-x-requires t c = let pre = c.requires in (pre.0, omega (arith, pre.1), omega (arith, chosen_below _ _ _ pre.2 pre.1 pre.0))
 
 pub marked-requires : goal.marked-requires
 marked-requires t c = let pre = c.requires in omega (arith, chosen_small _ _ _ pre.2 pre.1 pre.0)
@@ -35,12 +16,6 @@ put_set-d-requires t c =
         omega (arith, below_later _ _ _ (chosen_below _ _ _ pre.2 pre.1 pre.0) c.first-x.ensures.0),
       ),
     )
-
-pub overflow_add-j-2 : goal.overflow_add-j-2
-overflow_add-j-2 t c = omega (arith, c.requires.0, c.requires.1)
-
-pub first-y-requires : goal.first-y-requires
-first-y-requires t c = let pre = c.requires in (pre.0, omega (arith, pre.1), omega (arith, chosen_below _ _ _ pre.2 pre.1 pre.0))
 
 pub marked-requires-then-m-y : goal.marked-requires-then-m-y
 marked-requires-then-m-y t c = let pre = c.requires in omega (arith, chosen_small _ _ _ pre.2 pre.1 pre.0)
@@ -63,8 +38,7 @@ returns t c =
     let given = c.first-x.ensures in
     let other = c.first-y.ensures in
     let below = chosen_below _ _ _ pre.2 pre.1 pre.0 in
-    anew _ _ _ _
-    (laid_split _ _ c.put-a.ensures c.piece.ensures c.put_bytes-b.ensures c.put-c.ensures
+    laid_split _ _ c.put-a.ensures c.piece.ensures c.put_bytes-b.ensures c.put-c.ensures
     (elim c.if-m-x.branch [
       | then-m-x w ↦ laid_met (laid_leaf _ _ w.put_leaf-d.ensures w.marked.ensures given.2 w.if-m-x.true (omega (arith, pre.1)) below) w.room-is w.d-is
       | else-m-x w ↦ laid_met (laid_from _ _ w.put_set-d.ensures given.2 w.if-m-x.false given.0 below) w.room-is w.d-is
@@ -74,4 +48,4 @@ returns t c =
       | then-m-y w ↦ laid_met (laid_leaf _ _ w.put_leaf-f.ensures w.marked-then-m-y.ensures other.2 w.if-m-y.true (omega (arith, pre.1)) (omega (arith, below))) w.room-is w.f-is
       | else-m-y w ↦ laid_met (laid_from _ _ w.put_set-f.ensures other.2 w.if-m-y.false other.0 (omega (arith, below))) w.room-is w.f-is
     ])
-    c.put.ensures pre.1 pre.2 ends marked)
+    c.put.ensures pre.1 pre.2 ends marked

@@ -1,5 +1,5 @@
 -- `is_action`. Each return by the law for the test that led to it. Assumes nothing.
-use native.Mathlib.Omega.{arith}
+use Rattle.std.proofs.Common.{arith}
 use Rattle.values.proofs.Names.{action_short, action_long, action_good}
 use Rattle.values.proofs.is_action.Goals as goal
 

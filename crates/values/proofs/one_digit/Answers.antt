@@ -1,13 +1,12 @@
--- `one_digit`. Each return by the law for the tests that led to it. Assumes nothing.
-use native.Mathlib.Omega.{arith}
-use Rattle.values.proofs.States.{one_low, one_high, one_good}
+-- `one_digit`. Each return by the law for the test that led to it. Assumes nothing.
+use Rattle.std.proofs.Common.{sym, ◌∙◌}
+use Rattle.fields.specs.Bytes.{read_state}
 use Rattle.values.proofs.one_digit.Goals as goal
 
-pub returns-then-a-lt48 : goal.returns-then-a-lt48
-returns-then-a-lt48 c = one_low _ (omega arith)
-
-pub returns-then-a-gt57 : goal.returns-then-a-gt57
-returns-then-a-gt57 c = one_high _ (omega arith)
+pub returns-then-is_ascii_digit : goal.returns-then-is_ascii_digit
+unfolding read_state
+returns-then-is_ascii_digit c = rw (sym c.is_ascii_digit.ensures.value ∙ c.if-is_ascii_digit.true, c.from.ensures)
 
 pub returns : goal.returns
-returns c = one_good _ (omega arith) (omega arith) (omega arith)
+unfolding read_state
+returns c = rw (sym c.is_ascii_digit.ensures.value ∙ c.if-is_ascii_digit.false)

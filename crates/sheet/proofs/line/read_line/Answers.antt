@@ -1,6 +1,5 @@
 -- `line::read_line` meets its contract: the line is that of its kind, and its reader has read it. Assumes nothing.
-use mathlib.Core.Path.{refl}
-use native.Mathlib.Omega.{arith}
+use Rattle.std.proofs.Common.{refl, arith}
 use Rattle.fields.specs.Bytes.{part}
 use Rattle.sheet.proofs.Lines.{refuses}
 use Rattle.sheet.proofs.Whole.{line_alone, line_of, rest_lies}
@@ -50,7 +49,7 @@ unfolding part
 returns-in-Fts c =
     λ st so.
     line_of _ c.find-w.ensures _ _ st
-    c.if-l-w.false so.section c.line_kind-k.ensures
+    c.if-l-w.false so.section c.line_kind.ensures
     c.in-Fts.is (c.read_fts.ensures _ _ _ st so)
 
 pub returns-in-Feature : goal.returns-in-Feature
@@ -58,7 +57,7 @@ unfolding part
 returns-in-Feature c =
     λ st so.
     line_of _ c.find-w.ensures _ _ st
-    c.if-l-w.false so.section c.line_kind-k.ensures
+    c.if-l-w.false so.section c.line_kind.ensures
     c.in-Feature.is
     (c.read_feature.ensures _ _ _ _ _ _ st so
     (rest_lies _ _ _ c.requires.line_within.0
@@ -71,7 +70,7 @@ returns-in-Valid c =
     λ st so.
     line_of _ c.find-w.ensures _ _ st
     c.if-l-w.false so.section
-    c.line_kind-k.ensures c.in-Valid.is
+    c.line_kind.ensures c.in-Valid.is
     (c.read_valid.ensures _ _ _ _ _ st so)
 
 pub returns-in-Start : goal.returns-in-Start
@@ -79,7 +78,7 @@ unfolding part
 returns-in-Start c =
     λ st so.
     line_of _ c.find-w.ensures _ _ st
-    c.if-l-w.false so.section c.line_kind-k.ensures
+    c.if-l-w.false so.section c.line_kind.ensures
     c.in-Start.is (c.read_start.ensures _ _ _ st so)
 
 pub returns-in-Move : goal.returns-in-Move
@@ -88,7 +87,7 @@ returns-in-Move c =
     λ st so.
     line_of _ c.find-w.ensures _ _ st
     c.if-l-w.false so.section
-    c.line_kind-k.ensures
+    c.line_kind.ensures
     c.in-Move.is
     (c.read_move.ensures _ _ _ st so
     (rest_lies _ _ _
@@ -102,7 +101,7 @@ returns-in-Stop c =
     λ st so.
     line_of _ c.find-w.ensures _ _ st
     c.if-l-w.false so.section
-    c.line_kind-k.ensures
+    c.line_kind.ensures
     c.in-Stop.is
     (c.read_stop.ensures _ _ _ _ st so)
 
@@ -111,5 +110,5 @@ unfolding part
 returns-in-Misplaced c =
     λ st so.
     line_of _ c.find-w.ensures _ _ st
-    c.if-l-w.false so.section c.line_kind-k.ensures
+    c.if-l-w.false so.section c.line_kind.ensures
     c.in-Misplaced.is (refuses c.refuse-in-Misplaced.ensures refl)

@@ -1,5 +1,5 @@
 -- `row::is_repeat` meets its contract: a triple whose place has no mark is new. Assumes nothing.
-use native.Mathlib.Omega.{arith}
+use Rattle.std.proofs.Common.{arith}
 use Rattle.sheet.proofs.Marks.{word_small, tells_new, tells_seen}
 use Rattle.sheet.proofs.row.is_repeat.Goals as goal
 

@@ -1,10 +1,6 @@
 -- `first` meets its contract. The loop's invariant: no feature passed is marked. Assumes nothing.
-use Prim.Native.Nat.{◌-◌}
 use Rattle.splitting.proofs.Marks.{Passed}
 use Rattle.splitting.proofs.dependence.first.Given as goal
 
 abbrev pub invariant-loop-j : goal.invariant-loop-j
 invariant-loop-j l = Passed l.table l.n l.i l.chosen l.j
-
-abbrev pub decreases-loop-j : goal.decreases-loop-j
-decreases-loop-j l = l.n - l.j

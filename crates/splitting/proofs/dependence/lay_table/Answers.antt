@@ -9,4 +9,4 @@ returns-then-m-gt6 c =
 pub returns : goal.returns
 returns c =
     ends_early c.lay_later-m.ensures.1 c.first_word-x.ensures c.requires.0 c.requires.1 _ c.last_of_six.ensures
-    c.at_most.ensures c.if-m-gt6.false
+    c.min.ensures c.if-m-gt6.false

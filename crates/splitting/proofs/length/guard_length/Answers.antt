@@ -10,12 +10,6 @@ use Rattle.splitting.proofs.length.guard_length.Goals.{After-splits}
 pub loop-i-init : goal.loop-i-init
 loop-i-init c = counted_none _ _ _ _
 
-pub returns-then-name-gt-MOST_NAME : goal.returns-then-name-gt-MOST_NAME
-returns-then-name-gt-MOST_NAME c = λ pos. absurd (omega arith)
-
-pub splits-requires : goal.splits-requires
-splits-requires c = omega (arith, c.loop-i-test.true, c.requires)
-
 -- neither the sum nor what is added to it is large
 small : (c : After-splits) → c.loop-i.total + c.splits.result * (length c.piece-name.result.now + 5) ≤ 70656
 small c =
@@ -35,4 +29,4 @@ loop-i-preserved c =
     c.if-name-gt-MOST_NAME.false (omega arith)
 
 pub returns : goal.returns
-returns c = λ pos. counted_all c.loop-i.invariant c.loop-i-test.false
+returns c = counted_all c.loop-i.invariant c.loop-i-test.false

@@ -1,7 +1,0 @@
--- `serve_large`: 256 and 64 rows are enough for every text. Assumes nothing.
-use mathlib.Core.Path.{refl}
-use native.Mathlib.Omega.{arith}
-use Rattle.calls.proofs.serve_large.Goals as goal
-
-pub serve_by-requires : goal.serve_by-requires
-serve_by-requires c = record { tables_blank = refl; tables_suffice = (omega arith, omega arith, omega arith, omega arith) }

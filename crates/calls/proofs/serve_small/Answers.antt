@@ -1,7 +1,0 @@
--- `serve_small`: 13 and 19 rows are enough for 169 bytes. Assumes nothing.
-use mathlib.Core.Path.{refl}
-use native.Mathlib.Omega.{arith}
-use Rattle.calls.proofs.serve_small.Goals as goal
-
-pub serve_by-requires : goal.serve_by-requires
-serve_by-requires c = record { tables_blank = refl; tables_suffice = (omega arith, omega arith, omega arith, omega arith) }

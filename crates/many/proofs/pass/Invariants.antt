@@ -1,9 +1,0 @@
--- `many::pass` is safe and ends: the measure is what is left to pass over, and each turn takes some of it.
--- Assumes nothing.
-use Rattle.many.proofs.pass.Given as goal
-
-abbrev pub invariant-loop-left : goal.invariant-loop-left
-invariant-loop-left g l = Unit {0}
-
-abbrev pub decreases-loop-left : goal.decreases-loop-left
-decreases-loop-left g l = l.left
