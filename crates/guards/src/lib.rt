@@ -46,7 +46,9 @@ pub fn read_whole(names: &FeatureNames, field: &[u8], set: &mut [u64; 16]) -> Re
     r
 }
 
-// The number of the feature that `name` names.
+// The number of the feature that `name` names. It is asked for at every name of a guard, and a call would be a
+// sixth of its time.
+#[inline(always)]
 pub fn find_name(names: &FeatureNames, name: &[u8]) -> Option<usize>
     ensures { result ≡ number (names_in names.now) name.now }
 {
