@@ -3,7 +3,7 @@
 // its place from one action to the next. Of a sheet it knows what the reader promises, and nothing else.
 #![tactic(auto)]
 
-ghost use Rattle.std.specs.Prelude.{min};
+ghost use Rattle.std.specs.Prelude.{◌≡◌, min, replicate};
 ghost use Rattle.text.specs.Text.{Wrote};
 ghost use Rattle.running.specs.Promise.{SetsUp, Acts};
 ghost use Rattle.running.specs.Shown.{place_text, state_text, Told};
@@ -132,20 +132,23 @@ pub fn put_called(x: Called, room: &mut [u8]) -> usize
     }
 }
 
-// Reads the sheet: its valid products, and its moves with their guards. The other tables are needed by the
-// reader alone.
+// Reads the sheet into blank tables: its valid products, and its moves with their guards. The other tables are
+// needed by the reader alone.
 fn look(
     text: &[u8],
     valid: &mut [u64; 16],
     moves: &mut [[usize; 5]; 256],
     guards: &mut [[u64; 16]; 256],
 ) -> Result<Counts, Refusal>
+    requires valid_blank { valid.old ≡ replicate 16 0 }
+    requires moves_blank { moves.old ≡ replicate 256 (replicate 5 0) }
+    requires guards_blank { guards.old ≡ replicate 256 (replicate 16 0) }
     ensures { Looks text.now valid.new moves.new guards.new result }
 {
     let mut names = [[0usize; 2]; 10];
     let mut stops = [[0usize; 2]; MOST_STOPS];
     let mut stop_guards = [[0u64; 16]; MOST_STOPS];
-    sheet::read_sheet(
+    sheet::read_blank(
         text,
         &mut names,
         valid,
