@@ -3,7 +3,7 @@
 // box's place or the refusal. A refused name leaves the place, a refused set-up ends the run.
 #![tactic(auto)]
 
-ghost use Rattle.std.specs.Prelude.{◌≡◌, ◌≤◌, length, take};
+ghost use Rattle.std.specs.Prelude.{◌≡◌, ◌≤◌, length, take, IsErr};
 ghost use Rattle.running.specs.Shown.{called_text};
 ghost use Rattle.console.specs.Reading.{Held};
 
@@ -65,10 +65,17 @@ fn read_file<F: Files>(
     ensures { Held buf.old buf.new result }
 {
     let Some(mut file) = open(files, path) else {
-        console::tell(streams, b"the sheet could not be opened\n");
-        return Err(Broken);
+        return tell_unopened(streams);
     };
     console::read_from(streams, &mut file, buf)
+}
+
+// A sheet that could not be opened is no empty sheet.
+fn tell_unopened(streams: &Streams) -> Result<usize, Broken>
+    ensures { IsErr result }
+{
+    console::tell(streams, b"the sheet could not be opened\n");
+    Err(Broken)
 }
 
 // Only a name in UTF-8 can be handed to the system, so with any other the sheet cannot be opened.
