@@ -5,14 +5,18 @@
 // the report's length and the clean sheet's, tab-parted, byte 10, and then both texts. Nothing is judged here.
 #![tactic(auto)]
 
+ghost use Rattle.std.specs.Prelude.{◌≤◌, length};
+
 use console::{Broken, Streams};
 use refusals::Refusal;
-use std::io;
 use std::io::Read;
 use tables::MOST_BYTES;
 
 // The most digits that a frame's length is written with.
 const MOST_DIGITS: usize = 20;
+
+// How many bytes are passed over at once.
+const AT_ONCE: usize = 4096;
 
 // More bytes than any line has that is written here.
 const LINE_ROOM: usize = 64;
@@ -63,16 +67,37 @@ fn read_frame<R: Read>(reader: &mut R, buf: &mut [u8]) -> Result<Option<usize>, 
 
 // Reads a sheet of this length. As much as fits is laid at the start of buf, and the rest is passed over.
 fn read_sheet<R: Read>(reader: &mut R, buf: &mut [u8], length: usize) -> Result<(), Broken> {
-    let n = length.min(buf.len());
-    reader.read_exact(&mut buf[..n])?;
+    let most = length.min(buf.len());
+    let n = fill(reader, &mut buf[..most]);
     pass(reader, length - n)
 }
 
-// Passes over this many bytes.
+// Reads until buf is full, the input ends or a read fails; answers how many bytes came. Not `read_exact`: where a read
+// gave nothing, what comes after it is passed over.
+fn fill<R: Read>(reader: &mut R, buf: &mut [u8]) -> usize
+    ensures { result ≤ length buf.new }
+{
+    let mut done = 0;
+    while done < buf.len() {
+        let n = reader.read(&mut buf[done..]).unwrap_or(0);
+        if n == 0 {
+            return done;
+        }
+        done += n;
+    }
+    done
+}
+
+// Passes over this many bytes. Not `io::copy`, for the same reason.
 fn pass<R: Read>(reader: &mut R, length: usize) -> Result<(), Broken> {
-    let length = length as u64;
-    if io::copy(&mut reader.take(length), &mut io::sink())? < length {
-        return Err(Broken);
+    let mut some = [0u8; AT_ONCE];
+    let mut left = length;
+    while 0 < left {
+        let n = fill(reader, &mut some[..left.min(AT_ONCE)]);
+        if n == 0 {
+            return Err(Broken);
+        }
+        left -= n;
     }
     Ok(())
 }

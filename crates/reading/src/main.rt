@@ -2,8 +2,19 @@
 // reader alone.
 #![tactic(auto)]
 
+use console::Streams;
+use tables::MOST_BYTES;
+
+// Not `console::answer_input`, whose room would take 64 KB more of the stack.
 fn main(rt: HostRuntime) {
-    console::answer_input(&rt, answer);
+    let streams = Streams::new(&rt);
+    let mut buf = [0u8; MOST_BYTES + 1];
+    let Ok(n) = console::read_input(&streams, &mut buf) else {
+        return;
+    };
+    let mut room = [0u8; 64];
+    let m = answer(console::first(&buf, n), &mut room);
+    console::print(&streams, console::first(&room, m));
 }
 
 // Lays `accepted` into the room, or the line of the refusal; answers how many bytes that is.
