@@ -3,17 +3,18 @@
 use Rattle.std.proofs.Common.{Ok, Err, Result}
 use mathlib.Core.Bool.{true}
 use mathlib.Core.List.{List, [], ◌∷◌}
-use mathlib.Core.Logic.{◌↔◌, inl, inr}
+use mathlib.Core.Logic.{◌↔◌, inl, inr, ⊎_elim}
 use mathlib.Core.Path.{◌≡◌, refl, sym, ap, ◌∙◌}
-use Prim.Native.Nat.{ℕ}
+use Prim.Native.Nat.{ℕ, ◌≤◌}
 use native.Mathlib.Omega.{arith}
 use lib.ListN.{length, take, length-take}
 use lib.Seq.{take_all}
 use Rattle.fields.specs.Bytes.{is_action}
+use Rattle.refusals.specs.declared.Reason.{Reason}
 use Rattle.refusals.specs.declared.Reason.TheVariants as because
 use Rattle.refusals.specs.declared.Refusal.{Refusal}
 use Rattle.refusals.specs.Refusal.{refusal}
-use Rattle.refusals.proofs.Numbers.{no_done_row, one_refusal}
+use Rattle.refusals.proofs.Numbers.{number_low, no_done_row, one_refusal}
 use Rattle.values.proofs.Names.{action_names}
 use Rattle.sheet.specs.Sheet.{Sheet}
 use Rattle.sheet.specs.Reading.{kept, read_sheet}
@@ -103,17 +104,28 @@ act_refusals s b name q after (z, inl e) = inl (refused_number s e)
 act_refusals s b name q after (z, inr (r, e, inl n)) = inr (inl n.twelve)
 act_refusals s b name q after (z, inr (r, e, inr n)) = inr (inr n.nineteen)
 
-rows_tell : (a c : Result (Unit {0}) Refusal) → box_row a ≡ box_row c → a ≡ c
-rows_tell (Ok a) (Ok c) e = refl
-rows_tell (Ok a) (Err q) e = absurd (no_done_row q (sym e))
-rows_tell (Err p) (Ok c) e = absurd (no_done_row p e)
-rows_tell (Err p) (Err q) e = ap Err (one_refusal p q e)
+-- no reason has number 0
+numbered : (r : Reason) {q : Refusal} → q ≡ refusal r 0 0 → 1 ≤ q.number
+numbered r e = let z = ap (λ (q : Refusal). q.number) e in omega (arith, number_low r)
+
+rows_tell : (a c : Result (Unit {0}) Refusal) → ((q : Refusal) → a ≡ Err q → 1 ≤ q.number) → ((q : Refusal) → c ≡ Err q → 1 ≤ q.number) → box_row a ≡ box_row c → a ≡ c
+rows_tell (Ok a) (Ok c) h k e = refl
+rows_tell (Ok a) (Err q) h k e = absurd (no_done_row q (k q refl) (sym e))
+rows_tell (Err p) (Ok c) h k e = absurd (no_done_row p (h p refl) e)
+rows_tell (Err p) (Err q) h k e = ap Err (one_refusal p q e)
+
+set_up_number : (s : List ℕ) (p : ℕ) (a : Result (Unit {0}) Refusal) (b : RunningBox) → SetsUp s p a b → (q : Refusal) → a ≡ Err q → 1 ≤ q.number
+set_up_number s p a b h q e = ⊎_elim (λ n. n.0) (numbered because.InvalidProduct) (set_up_refusals s p q b (rw e at h))
+
+act_number : (s : List ℕ) (b : RunningBox) (name : List ℕ) (a : Result (Unit {0}) Refusal) (after : RunningBox) → Acts s b name a after → (q : Refusal) → a ≡ Err q → 1 ≤ q.number
+act_number s b name a after h q e =
+    ⊎_elim (λ n. n.0) (λ n. ⊎_elim (numbered because.InvalidProduct) (numbered because.NoMove) n) (act_refusals s b name q after (rw e at h))
 
 pub set_up_told : SetUpTold
-set_up_told s t p m a c b d h k e = rows_tell a c e
+set_up_told s t p m a c b d h k e = rows_tell a c (set_up_number s p a b h) (set_up_number t m c d k) e
 
 pub act_told : ActTold
-act_told s t b d name other a c x y h k e = rows_tell a c e
+act_told s t b d name other a c x y h k e = rows_tell a c (act_number s b name a x h) (act_number t d other c y k) e
 
 -- ---- a longer sheet, and a longer name
 

@@ -40,13 +40,13 @@ use Rattle.demands.proofs.Demands.{report_determined, clean_determined, both_det
 
 -- the number is one of the table's
 abbrev Numbered : Refusal → Type 0
-Numbered q = (1 ≤ number_of q.reason) × (number_of q.reason ≤ 11)
+Numbered q = (1 ≤ q.number) × (q.number ≤ 11)
 
 read_numbered : (s : List ℕ) {q : Refusal} → read_sheet s ≡ refused q → Numbered q
 read_numbered s e = let z = refused_number s e in (z.0, omega (arith, z.1))
 
 long_numbered : {Is : List ℕ → Type 0} {most line : ℕ} {q : Refusal} → TooLong Is most line q → Numbered q
-long_numbered l = let e = ap (λ (q : Refusal). number_of q.reason) l.eleven in (omega arith, omega arith)
+long_numbered l = let e = ap (λ (q : Refusal). q.number) l.eleven in (omega arith, omega arith)
 
 -- ---- a longer input
 
@@ -67,8 +67,8 @@ module _ (Is : Sheet → List ℕ → Type 0) (most : List ℕ → ℕ) where
 
   one_told : Told Call
   one_told s room x t other y (Ok m) (Ok n) h k row e = ap Ok e
-  one_told s room x t other y (Ok m) (Err q) h k row e = absurd (no_done_row q (sym row))
-  one_told s room x t other y (Err p) (Ok n) h k row e = absurd (no_done_row p row)
+  one_told s room x t other y (Ok m) (Err q) h k row e = absurd (no_done_row q (one_refusals t other y q k).0 (sym row))
+  one_told s room x t other y (Err p) (Ok n) h k row e = absurd (no_done_row p (one_refusals s room x p h).0 row)
   one_told s room x t other y (Err p) (Err q) h k row e = ap Err (one_refusal p q row)
 
   -- in a room without a byte every text is too long
@@ -115,8 +115,8 @@ both_refusals s room x clean u q (k, j, inr (r, e, inr (f, l))) = long_numbered 
 
 pub both_told : BothTold
 both_told s room x clean u t other y second v (Ok (m, n)) (Ok (i, j)) h k row e = ap Ok e
-both_told s room x clean u t other y second v (Ok (m, n)) (Err q) h k row e = absurd (no_done_row q (sym row))
-both_told s room x clean u t other y second v (Err p) (Ok (i, j)) h k row e = absurd (no_done_row p row)
+both_told s room x clean u t other y second v (Ok (m, n)) (Err q) h k row e = absurd (no_done_row q (both_refusals t other y second v q k).0 (sym row))
+both_told s room x clean u t other y second v (Err p) (Ok (i, j)) h k row e = absurd (no_done_row p (both_refusals s room x clean u p h).0 row)
 both_told s room x clean u t other y second v (Err p) (Err q) h k row e = ap Err (one_refusal p q row)
 
 both_as : (s t : List ℕ) → read_sheet s ≡ read_sheet t → (room x clean u : List ℕ) (a : Result (ℕ × ℕ) Refusal) → BothPromise s room x clean u a → BothPromise t room x clean u a

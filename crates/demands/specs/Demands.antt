@@ -5,7 +5,7 @@
 use Rattle.std.specs.Prelude.{true, List, [], ◌∷◌, ◌↔◌, ◌⊎◌, ◌≡◌, ℕ, ◌+◌, ◌≤◌, length, take, None, Result, Ok, Err, Ok}
 use Rattle.refusals.specs.declared.Reason.TheVariants as because
 use Rattle.refusals.specs.declared.Refusal.{Refusal}
-use Rattle.refusals.specs.Refusal.{number_of, refusal}
+use Rattle.refusals.specs.Refusal.{refusal}
 use Rattle.products.specs.declared.Order.{Order}
 use Rattle.products.specs.declared.Order.TheVariants.{Plainest, ByNumber}
 use Rattle.products.specs.Sets.{Least}
@@ -50,10 +50,10 @@ BothDetermined =
 
 -- report_refusals, clean_refusals, both_refusals: the number of a refusal is 1 to 11.
 abbrev pub Refusals : (List ℕ → List ℕ → List ℕ → Result ℕ Refusal → Type 0) → Type 0
-Refusals P = (s room x : List ℕ) (q : Refusal) → P s room x (Err q) → (1 ≤ number_of q.reason) × (number_of q.reason ≤ 11)
+Refusals P = (s room x : List ℕ) (q : Refusal) → P s room x (Err q) → (1 ≤ q.number) × (q.number ≤ 11)
 
 abbrev pub BothRefusals : Type 0
-BothRefusals = (s room x clean u : List ℕ) (q : Refusal) → BothPromise s room x clean u (Err q) → (1 ≤ number_of q.reason) × (number_of q.reason ≤ 11)
+BothRefusals = (s room x clean u : List ℕ) (q : Refusal) → BothPromise s room x clean u (Err q) → (1 ≤ q.number) × (q.number ≤ 11)
 
 -- report_told, clean_told, both_told: the row of the table, "0, done, 0" or the refusal's, and the length, or both lengths, tell the answer.
 abbrev pub Told : (List ℕ → List ℕ → List ℕ → Result ℕ Refusal → Type 0) → Type 0
@@ -74,20 +74,20 @@ TableRefuses =
 
 -- refusals_given: each of 1 to 10 is given, to some sheet.
 abbrev pub RefusalsGiven : Type 0
-RefusalsGiven = (e : ℕ) → 1 ≤ e → e ≤ 10 → (s : List ℕ) × (q : Refusal) × (number_of q.reason ≡ e) × (read_sheet s ≡ refused q)
+RefusalsGiven = (e : ℕ) → 1 ≤ e → e ≤ 10 → (s : List ℕ) × (q : Refusal) × (q.number ≡ e) × (read_sheet s ≡ refused q)
 
 -- place_of_byte: "the place of the faulty byte, counted from 1 in its line". Of 5, 6 and 7 the leftmost faulty byte of a guard stands there, or its end.
 abbrev pub PlaceOfByte : Type 0
-PlaceOfByte = (s : List ℕ) (q : Refusal) → read_sheet s ≡ refused q → 5 ≤ number_of q.reason → number_of q.reason ≤ 7 → ByteThere s q
+PlaceOfByte = (s : List ℕ) (q : Refusal) → read_sheet s ≡ refused q → 5 ≤ q.number → q.number ≤ 7 → ByteThere s q
 
 -- place_of_field: "Refusals 4 and 9 give where the field concerned begins, empty or not (for 9 on a move, of its from field)".
 abbrev pub PlaceOfField : Type 0
-PlaceOfField = (s : List ℕ) (q : Refusal) → read_sheet s ≡ refused q → (number_of q.reason ≡ 4) ⊎ (number_of q.reason ≡ 9) → FieldThere s q
+PlaceOfField = (s : List ℕ) (q : Refusal) → read_sheet s ≡ refused q → (q.number ≡ 4) ⊎ (q.number ≡ 9) → FieldThere s q
 
 -- no_place: "all others 0", of the sheet's own refusals. Those of the calls say it themselves: `refusal 11 0 0`, and so on.
 abbrev pub NoPlace : Type 0
 NoPlace =
-    (s : List ℕ) (q : Refusal) → read_sheet s ≡ refused q → (number_of q.reason ≡ 4 → ⊥) → (number_of q.reason ≡ 9 → ⊥) → (5 ≤ number_of q.reason → number_of q.reason ≤ 7 → ⊥) → q.place ≡ 0
+    (s : List ℕ) (q : Refusal) → read_sheet s ≡ refused q → (q.number ≡ 4 → ⊥) → (q.number ≡ 9 → ⊥) → (5 ≤ q.number → q.number ≤ 7 → ⊥) → q.place ≡ 0
 
 -- place_within: a place is at most one past its line's last byte, and so at most 65,537.
 abbrev pub PlaceWithin : Type 0
@@ -99,7 +99,7 @@ PlaceWithin =
 abbrev pub PlaceDetermined : Type 0
 PlaceDetermined =
     (s : List ℕ) (q r : Refusal) → q.line ≡ r.line
-    → (ByteThere s q → ByteThere s r → q.place ≡ r.place) × (number_of q.reason ≡ number_of r.reason → FieldThere s q → FieldThere s r → q.place ≡ r.place)
+    → (ByteThere s q → ByteThere s r → q.place ≡ r.place) × (q.number ≡ r.number → FieldThere s q → FieldThere s r → q.place ≡ r.place)
 
 -- eleven_given: so is 11, to every accepted sheet, in a room without a byte.
 abbrev pub ElevenGiven : Type 0
@@ -305,12 +305,12 @@ BoxTableRefuses =
 
 -- set_up_refusals, act_refusals: the number of a refusal is 1 to 10; or it is 12 or, of an action, 19, each with line and place 0.
 abbrev pub SetUpRefusals : Type 0
-SetUpRefusals = (s : List ℕ) (p : ℕ) (q : Refusal) (b : RunningBox) → SetsUp s p (Err q) b → ((1 ≤ number_of q.reason) × (number_of q.reason ≤ 10)) ⊎ (q ≡ refusal because.InvalidProduct 0 0)
+SetUpRefusals = (s : List ℕ) (p : ℕ) (q : Refusal) (b : RunningBox) → SetsUp s p (Err q) b → ((1 ≤ q.number) × (q.number ≤ 10)) ⊎ (q ≡ refusal because.InvalidProduct 0 0)
 
 abbrev pub ActRefusals : Type 0
 ActRefusals =
     (s : List ℕ) (b : RunningBox) (name : List ℕ) (q : Refusal) (after : RunningBox) → Acts s b name (Err q) after
-    → ((1 ≤ number_of q.reason) × (number_of q.reason ≤ 10)) ⊎ ((q ≡ refusal because.InvalidProduct 0 0) ⊎ (q ≡ refusal because.NoMove 0 0))
+    → ((1 ≤ q.number) × (q.number ≤ 10)) ⊎ ((q ≡ refusal because.InvalidProduct 0 0) ⊎ (q ≡ refusal because.NoMove 0 0))
 
 -- set_up_told, act_told: the row of the table, "0, done, 0" or the refusal's, tells the answer.
 abbrev pub SetUpTold : Type 0

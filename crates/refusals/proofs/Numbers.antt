@@ -1,10 +1,10 @@
--- The numbers of the table of refusals: from 1 on, below 20, and no two reasons have one number. So no refusal's row is that of a call that is done, and
--- no two refusals have one row. Assumes nothing.
+-- The numbers of the table of refusals: from 1 on, below 20, and no two reasons have one number. No row with a number from 1 on is that of a call that is
+-- done, and no two refusals have one row. Assumes nothing.
 use Rattle.std.proofs.Common.{◌≡◌, ℕ, ◌≤◌, cond, eqb, refl, sym, ap, ◌∙◌, arith}
 use Rattle.refusals.specs.declared.Reason.{Reason}
 use Rattle.refusals.specs.declared.Reason.TheVariants as because
 use Rattle.refusals.specs.declared.Refusal.{Refusal}
-use Rattle.refusals.specs.Refusal.{number_of, refusal, Row, done_row, refused_row}
+use Rattle.refusals.specs.Refusal.{number_of, Row, done_row, refused_row}
 
 pub number_low : (r : Reason) → 1 ≤ number_of r
 number_low because.SheetTooLong = omega arith
@@ -72,12 +72,12 @@ named_back because.NoMove = refl
 pub one_reason : (q r : Reason) → number_of q ≡ number_of r → q ≡ r
 one_reason q r e = sym (named_back q) ∙ (ap named e ∙ named_back r)
 
-pub no_done_row : (q : Refusal) → refused_row q ≡ done_row → ⊥
-no_done_row q e = let z = ap (λ (r : Row). r.number) e in omega (arith, number_low q.reason)
+pub no_done_row : (q : Refusal) → 1 ≤ q.number → refused_row q ≡ done_row → ⊥
+no_done_row q low e = let z = ap (λ (r : Row). r.number) e in omega arith
 
-same_parts : {a b : Reason} {l m p n : ℕ} → a ≡ b → l ≡ m → p ≡ n → ◌≡◌ {A = Refusal} (refusal a l p) (refusal b m n)
+same_parts : {a b l m p n : ℕ} → a ≡ b → l ≡ m → p ≡ n → ◌≡◌ {A = Refusal} (record { number = a; line = l; place = p }) (record { number = b; line = m; place = n })
 same_parts e f g = cc
 
 pub one_refusal : (q r : Refusal) → refused_row q ≡ refused_row r → q ≡ r
 one_refusal q r e =
-    same_parts (one_reason q.reason r.reason (ap (λ (x : Row). x.number) e)) (ap (λ (x : Row). x.line) e) (ap (λ (x : Row). x.place) e)
+    same_parts (ap (λ (x : Row). x.number) e) (ap (λ (x : Row). x.line) e) (ap (λ (x : Row). x.place) e)

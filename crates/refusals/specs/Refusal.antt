@@ -37,7 +37,7 @@ number_of because.NoMove = 19
 
 -- the refusal for this reason, which speaks of this line and of this place in it
 abbrev pub refusal : Reason → (line place : ℕ) → Refusal
-refusal r n p = record { reason = r; line = n; place = p }
+refusal r n p = record { number = number_of r; line = n; place = p }
 
 -- a row of the table with its line and place: "0, done, 0", or a refusal's
 pub record Row : Type 0 where
@@ -49,10 +49,10 @@ abbrev pub done_row : Row
 done_row = record { number = 0; line = 0; place = 0 }
 
 abbrev pub refused_row : Refusal → Row
-refused_row q = record { number = number_of q.reason; line = q.line; place = q.place }
+refused_row q = record { number = q.number; line = q.line; place = q.place }
 
 -- "The programs print a refusal as `refused`, number, line, tab-parted, with byte 10 at the end", and the place "as a fourth field"
 unfoldable pub refusal_text : Refusal → List ℕ
 refusal_text q =
     (114 ∷ 101 ∷ 102 ∷ 117 ∷ 115 ∷ 101 ∷ 100 ∷ 9 ∷ [])
-    ++ (decimal (number_of q.reason) ++ ((9 ∷ []) ++ (decimal q.line ++ ((9 ∷ []) ++ (decimal q.place ++ (10 ∷ []))))))
+    ++ (decimal q.number ++ ((9 ∷ []) ++ (decimal q.line ++ ((9 ∷ []) ++ (decimal q.place ++ (10 ∷ []))))))

@@ -32,10 +32,11 @@ impl From<Reason> for u8 {
     }
 }
 
-// Why; the line it speaks of, 0 for none; and the place in that line, counted from 1, 0 for none.
+// Its number in the table of refusals; the line it speaks of, 0 for none; and the place in that line,
+// counted from 1, 0 for none.
 #[derive(Clone, Copy)]
 pub struct Refusal {
-    pub reason: Reason,
+    pub number: u8,
     pub line: usize,
     pub place: usize,
 }
@@ -45,7 +46,7 @@ pub fn refuse<T>(reason: Reason, line: usize, place: usize) -> Result<T, Refusal
     ensures { result ≡ Err (refusal reason line place) }
 {
     Err(Refusal {
-        reason,
+        number: u8::from(reason),
         line,
         place,
     })
@@ -56,7 +57,7 @@ pub fn refuse<T>(reason: Reason, line: usize, place: usize) -> Result<T, Refusal
 pub fn put_refusal(room: &mut [u8], at: usize, refusal: Refusal) -> usize
     ensures { Wrote room.old at (refusal_text refusal) room.new result }
 {
-    let number = u8::from(refusal.reason) as usize;
+    let number = refusal.number as usize;
     let line = refusal.line;
     let place = refusal.place;
     let a = text::put_bytes(room, at, b"refused\t");

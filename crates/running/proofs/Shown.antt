@@ -65,8 +65,8 @@ place_short w = simp length-append (omega (arith, states_short w 64 (omega arith
 pub place_told : {l l' : List ℕ} {n : ℕ} (x : Called) → x.answer ≡ (Ok tt) → Wrote l 0 (place_text x.after.place) l' n → Told l l' n x
 place_told x e w = record { laid = rw e w; whole = rw e (whole_in (place_short x.after.place) w) }
 
-pub refusal_told : {l l' : List ℕ} {n : ℕ} (x : Called) (q : Refusal) → x.answer ≡ Err q → Wrote l 0 (refusal_text q) l' n → q.line < 2 ^ 64 → q.place < 2 ^ 64 → Told l l' n x
-refusal_told x q e w g f = record { laid = rw e w; whole = rw e (whole_in (omega (arith, refusal_short q g f)) w) }
+pub refusal_told : {l l' : List ℕ} {n : ℕ} (x : Called) (q : Refusal) → x.answer ≡ Err q → Wrote l 0 (refusal_text q) l' n → q.number < 2 ^ 8 → q.line < 2 ^ 64 → q.place < 2 ^ 64 → Told l l' n x
+refusal_told x q e w h g f = record { laid = rw e w; whole = rw e (whole_in (omega (arith, refusal_short q h g f)) w) }
 
 -- what `put_called` promises determines room and length
 pub told_determined : {room x y : List ℕ} {m n : ℕ} {c : Called} → Told room x m c → Told room y n c → (x ≡ y) × (m ≡ n)

@@ -1,7 +1,7 @@
 -- What reading tells of a sheet: it is kept, and then it is as `Accepted` says, or it is refused by a number of the table. Each line keeps the
 -- limits, and no move or stop stands before the last feature; so the numbers of features in guards stay declared. Assumes nothing.
-use Rattle.std.proofs.Common.{Option, Some, None, ◌≡◌, refl, sym, Bool, true, false, not, List, [], ◌∷◌, ℕ, suc, ◌+◌, ◌-◌, ◌^◌, ◌≤◌, ◌<◌, arith, eqb, leb, ltb, length, pow_mono}
-use mathlib.Core.Bool.{false≢true}
+use Rattle.std.proofs.Common.{Option, Some, None, ◌≡◌, refl, sym, Bool, true, false, not, ◌&&◌, List, [], ◌∷◌, ℕ, suc, ◌+◌, ◌-◌, ◌^◌, ◌≤◌, ◌<◌, arith, eqb, leb, ltb, length, pow_mono}
+use mathlib.Core.Bool.{and-eq-true_iff, false≢true}
 use mathlib.Core.List.{Memᴰ}
 use borrow.Author.Tests.{leb-true, leb-false, le-leb, not-false}
 use Rattle.text.specs.Text.{decimal}
@@ -9,7 +9,6 @@ use Rattle.refusals.specs.declared.Reason.TheVariants as because
 use Rattle.refusals.specs.declared.Reason.{Reason}
 use Rattle.refusals.specs.declared.Refusal.{Refusal}
 use Rattle.refusals.specs.Refusal.{number_of, refusal}
-use Rattle.refusals.proofs.Numbers.{number_low}
 use Rattle.fields.specs.Bytes.{same_bytes, is_name, is_action, read_state}
 use Rattle.fields.specs.Cutting.{lines, fields, One, only, not_one, Two, two, not_two, Four, four, not_four, as_one, as_two, as_four}
 use Rattle.values.proofs.States.{state_small, state_written}
@@ -23,9 +22,9 @@ use Rattle.sheet.proofs.Rows.{names_length}
 use Rattle.sheet.proofs.LineKinds.{by_kind_lem}
 use Rattle.sheet.proofs.ValidProducts.{some, valid_both}
 
--- a reason of the table of refusals for sheets
-abbrev InTable : Reason → Type 0
-InTable e = leb (number_of e) 10 ≡ true
+-- a number of the table of refusals for sheets
+abbrev InTable : ℕ → Type 0
+InTable e = (leb 1 e && leb e 10) ≡ true
 
 -- an answer that is refused with the property R, or kept with the property P
 pub data Tells {A : Type 0} (R : Refusal → Type 0) (P : A → Type 0) : Answer A → Type 0 where
@@ -42,7 +41,7 @@ told_refused {q = q} (refuses {q = d} h) e = let z : d ≡ q = cc in rw z at h
 
 -- an answer that is refused by a number of the table, or kept with the property P
 abbrev pub Told : {A : Type 0} → (A → Type 0) → Answer A → Type 0
-Told P a = Tells (λ q. InTable q.reason) P a
+Told P a = Tells (λ q. InTable q.number) P a
 
 -- ---- what each test tells
 
@@ -83,7 +82,7 @@ pub told_guard : {P : State → Type 0} {k : Guard → Answer State} (n p : ℕ)
     → Told P (guarded n p x (read_whole (names fs) x) k)
 told_guard n p fs x f =
     told_outcome n p (names fs) x
-    (λ e from q. let h = whole_faulty (names fs) x q in le-leb (number_of e) 10 (omega (arith, h.1)))
+    (λ e from q. let h = whole_faulty (names fs) x q in rw (le-leb 1 (number_of e) (omega (arith, h.0)), le-leb (number_of e) 10 (omega (arith, h.1))))
     (λ g rest q. let h = whole_exactly (names fs) x q in f g (record { declared = rw (names_length fs) at h.2; nested = h.3 }) h.1)
 
 -- ---- what the lines so far keep
@@ -266,9 +265,10 @@ pub accepted : (s : List ℕ) {r : Sheet} → read_sheet s ≡ kept r → Accept
 accepted s e = told_kept (sheet_told s) e
 
 -- refusals have the numbers of the table
-pub refused_number : (s : List ℕ) {q : Refusal} → read_sheet s ≡ refused q → (1 ≤ number_of q.reason) × (number_of q.reason ≤ 10)
+pub refused_number : (s : List ℕ) {q : Refusal} → read_sheet s ≡ refused q → (1 ≤ q.number) × (q.number ≤ 10)
 refused_number s {q} e =
-    (number_low q.reason, leb-true (number_of q.reason) 10 (told_refused (sheet_told s) e))
+    let k = (and-eq-true_iff (leb 1 q.number) (leb q.number 10)).0 (told_refused (sheet_told s) e) in
+    (leb-true 1 q.number k.0, leb-true q.number 10 k.1)
 
 -- a product of such a sheet's features is below 1,024
 pub product_below : {r : Sheet} {p : ℕ} → Accepted r → p < 2 ^ length r.features → p < 1024

@@ -55,14 +55,14 @@ concerned_before places.of_feature after = refl
 concerned_before places.of_move after = refl
 concerned_before places.of_stop after = refl
 
-pub field_place : (s : List ℕ) {q r : Refusal} → number_of q.reason ≡ number_of r.reason → q.line ≡ r.line → FieldThere s q → FieldThere s r → q.place ≡ r.place
-field_place s {q} {r} e n a b =
+pub field_place : (s : List ℕ) {q r : Refusal} → q.number ≡ r.number → q.line ≡ r.line → FieldThere s q → FieldThere s r → q.place ≡ r.place
+field_place s e n a b =
     let l = (line_same s n a.of b.of).1 in
     let f : a.before ++ a.field ∷ a.begins.after ≡ b.before ++ b.field ∷ b.begins.after = sym a.begins.cut ∙ ap fields l ∙ b.begins.cut in
     let same : a.before ≡ b.before =
     concerned_before a.concerned a.begins.after
-    ∙ ap (λ (k : Reason). before_in k (a.before ++ a.field ∷ a.begins.after)) (one_reason q.reason r.reason e)
-    ∙ ap (before_in r.reason) f
+    ∙ ap (λ (k : Reason). before_in k (a.before ++ a.field ∷ a.begins.after)) (one_reason a.why b.why (sym a.told ∙ e ∙ b.told))
+    ∙ ap (before_in b.why) f
     ∙ sym (concerned_before b.concerned b.begins.after) in
     a.begins.place ∙ ap (λ (fs : List (List ℕ)). length (tabbed fs) + 1) same ∙ sym b.begins.place
 

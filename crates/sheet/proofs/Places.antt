@@ -24,20 +24,20 @@ use Rattle.sheet.proofs.Begins.{field_begins, field_ends}
 
 -- ---- what a refusal speaks of
 
--- the reasons that come with a place, by their numbers
-abbrev has_place : Reason → Bool
-has_place e = (eqb (number_of e) 4 || eqb (number_of e) 9) || (leb 5 (number_of e) && leb (number_of e) 7)
+-- the numbers that come with a place
+abbrev has_place : ℕ → Bool
+has_place e = (eqb e 4 || eqb e 9) || (leb 5 e && leb e 7)
 
 -- a refusal of the line l, whose number is n, over the names declared above it
 data Placed (names : List (List ℕ)) (n : ℕ) (l : List ℕ) : Refusal → Type 0 where
   field : {e : Reason} {before : List (List ℕ)} {x : List ℕ} → Concerned e before x → FieldAt l before x (place_behind before) → Placed names n l (refusal e n (place_behind before))
   byte : {e : Reason} {before : List (List ℕ)} {x from : List ℕ} → BeforeGuard before → FieldAt l before x (place_behind before) → read_whole names x ≡ faulty e from
       → Placed names n l (refusal e n (place_behind before + (length x - length from)))
-  nowhere : {e : Reason} → has_place e ≡ false → Placed names n l (refusal e n 0)
+  nowhere : {e : ℕ} → has_place e ≡ false → Placed names n l (record { number = e; line = n; place = 0 })
 
 -- of a sheet with these lines: the sheet as a whole, or one of its lines
 data Speaks (ls : List (List ℕ)) : Refusal → Type 0 where
-  of_all : {e : Reason} {n : ℕ} → has_place e ≡ false → Speaks ls (refusal e n 0)
+  of_all : {e n : ℕ} → has_place e ≡ false → Speaks ls (record { number = e; line = n; place = 0 })
   of_line : {q : Refusal} (above : List (List ℕ)) (line : List ℕ) (below : List (List ℕ)) → ls ≡ above ++ line ∷ below
       → GoodNames (declared_in above []) → Placed (declared_in above []) (length above + 1) line q → Speaks ls q
 
@@ -188,9 +188,9 @@ sheet_spoken s =
 
 -- what a refusal says, by its number
 data Said (s : List ℕ) (q : Refusal) : Type 0 where
-  said_field : (number_of q.reason ≡ 4) ⊎ (number_of q.reason ≡ 9) → FieldThere s q → Said s q
-  said_byte : 5 ≤ number_of q.reason → number_of q.reason ≤ 7 → ByteThere s q → Said s q
-  said_nowhere : has_place q.reason ≡ false → q.place ≡ 0 → Said s q
+  said_field : (q.number ≡ 4) ⊎ (q.number ≡ 9) → FieldThere s q → Said s q
+  said_byte : 5 ≤ q.number → q.number ≤ 7 → ByteThere s q → Said s q
+  said_nowhere : has_place q.number ≡ false → q.place ≡ 0 → Said s q
 
 concerned_number : {e : Reason} {before : List (List ℕ)} {x : List ℕ} → Concerned e before x → (number_of e ≡ 4) ⊎ (number_of e ≡ 9)
 concerned_number (places.name h) = inl refl
@@ -209,13 +209,15 @@ module _ (s : List ℕ) (above : List (List ℕ)) (line : List ℕ) (below : Lis
 
   line_said : {q : Refusal} → Placed (declared_in above []) (length above + 1) line q → Said s q
   unfolding of_it
-  line_said (field {before = before} {x = x} c b) = said_field (concerned_number c) (record { of = of_it; before = before; field = x; concerned = c; begins = b })
+  line_said (field {e} {before} {x} c b) = said_field (concerned_number c) (record { of = of_it; why = e; told = refl; before = before; field = x; concerned = c; begins = b })
   line_said (byte {e} {before} {x} {from} g b f) =
       let (low, high, r) = whole_faulty (declared_in above []) x f in
       let h = leftmost_faulty (declared_in above []) good x e from f in
       said_byte low high
       (record {
         of = of_it;
+        why = e;
+        told = refl;
         before = before;
         guarded = g;
         guard = x;
@@ -236,27 +238,27 @@ module _ (s : List ℕ) {q : Refusal} (e : read_sheet s ≡ refused q) where
   it_says = said s (told_refused (sheet_spoken s) e)
 
   -- 4 and 9: the field concerned begins at the place
-  pub refused_field : (number_of q.reason ≡ 4) ⊎ (number_of q.reason ≡ 9) → FieldThere s q
+  pub refused_field : (q.number ≡ 4) ⊎ (q.number ≡ 9) → FieldThere s q
   refused_field h = go it_says
     where
       go : Said s q → FieldThere s q
       go (said_field k f) = f
       go (said_byte l m f) = absurd (⊎_elim (λ z. omega arith) (λ z. omega arith) h)
-      go (said_nowhere z p) = absurd (⊎_elim (λ k. false≢true (sym z ∙ rw k)) (λ k. false≢true (sym z ∙ rw k)) h)
+      go (said_nowhere z p) = absurd (⊎_elim (λ k. false≢true (sym z ∙ ap has_place k)) (λ k. false≢true (sym z ∙ ap has_place k)) h)
 
   -- 5 to 7: the leftmost faulty byte of a field stands there
-  pub refused_byte : 5 ≤ number_of q.reason → number_of q.reason ≤ 7 → ByteThere s q
+  pub refused_byte : 5 ≤ q.number → q.number ≤ 7 → ByteThere s q
   refused_byte l m = go it_says
     where
       go : Said s q → ByteThere s q
       go (said_field k f) = absurd (⊎_elim (λ z. omega arith) (λ z. omega arith) k)
       go (said_byte l m f) = f
       go (said_nowhere z p) =
-          let t : has_place q.reason ≡ true = rw (ne_eqb (number_of q.reason) 4 (λ k. omega arith), ne_eqb (number_of q.reason) 9 (λ k. omega arith), le-leb 5 (number_of q.reason) l, le-leb (number_of q.reason) 7 m) in
+          let t : has_place q.number ≡ true = rw (ne_eqb q.number 4 (λ k. omega arith), ne_eqb q.number 9 (λ k. omega arith), le-leb 5 q.number l, le-leb q.number 7 m) in
           absurd (false≢true (sym z ∙ t))
 
   -- "all others 0"
-  pub refused_nowhere : (number_of q.reason ≡ 4 → ⊥) → (number_of q.reason ≡ 9 → ⊥) → (5 ≤ number_of q.reason → number_of q.reason ≤ 7 → ⊥) → q.place ≡ 0
+  pub refused_nowhere : (q.number ≡ 4 → ⊥) → (q.number ≡ 9 → ⊥) → (5 ≤ q.number → q.number ≤ 7 → ⊥) → q.place ≡ 0
   refused_nowhere four nine between = go it_says
     where
       go : Said s q → q.place ≡ 0

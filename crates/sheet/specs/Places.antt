@@ -4,6 +4,7 @@ use Rattle.std.specs.Prelude.{true, false, cond, List, [], ◌∷◌, ◌++◌, 
 use Rattle.refusals.specs.declared.Reason.{Reason}
 use Rattle.refusals.specs.declared.Reason.TheVariants as because
 use Rattle.refusals.specs.declared.Refusal.{Refusal}
+use Rattle.refusals.specs.Refusal.{number_of}
 use Rattle.fields.specs.Bytes.{same_bytes, is_name, is_action, read_state}
 use Rattle.fields.specs.Cutting.{lines, fields}
 use Rattle.guards.specs.Places.{Leftmost}
@@ -45,12 +46,14 @@ pub data Concerned : Reason → List (List ℕ) → List ℕ → Type 0 where
   of_move : {x : List ℕ} → Concerned because.Repeat (move_word ∷ []) x
   of_stop : {x : List ℕ} → Concerned because.Repeat (stop_word ∷ []) x
 
--- at the refusal's line and place the field concerned begins
+-- the refusal has the number of this reason, and at its line and place the field concerned begins
 pub record FieldThere (s : List ℕ) (q : Refusal) : Type 0 where
   pub of : LineOf s q.line
+  pub why : Reason
+  pub told : q.number ≡ number_of why
   pub before : List (List ℕ)
   pub field : List ℕ
-  pub concerned : Concerned q.reason before field
+  pub concerned : Concerned why before field
   pub begins : FieldAt of.line before field q.place
 
 -- ---- 5, 6 and 7
@@ -73,15 +76,18 @@ pub data BeforeGuard : List (List ℕ) → Type 0 where
   move : {f a t : List ℕ} → BeforeGuard (move_word ∷ f ∷ a ∷ t ∷ [])
   stop : {q : List ℕ} → BeforeGuard (stop_word ∷ q ∷ [])
 
--- "the place of the faulty byte": the guard of the refusal's line begins at place p, and the refusal's place is as much further as bytes stand before the
--- leftmost faulty one, over the names declared above. So "a guard that ends too soon gives the place one past its last byte"
+-- "the place of the faulty byte": the refusal has the number of the reason for which its line's guard, which begins at place p, is refused, and the refusal's
+-- place is as much further as bytes stand before the leftmost faulty one, over the names declared above. So "a guard that ends too soon gives the place one
+-- past its last byte"
 pub record ByteThere (s : List ℕ) (q : Refusal) : Type 0 where
   pub of : LineOf s q.line
+  pub why : Reason
+  pub told : q.number ≡ number_of why
   pub before : List (List ℕ)
   pub guarded : BeforeGuard before
   pub guard : List ℕ
   pub p : ℕ
   pub begins : FieldAt of.line before guard p
   pub from : List ℕ
-  pub leftmost : Leftmost (declared_in of.above []) guard q.reason from
+  pub leftmost : Leftmost (declared_in of.above []) guard why from
   pub there : q.place ≡ p + length leftmost.before

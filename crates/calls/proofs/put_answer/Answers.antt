@@ -9,4 +9,4 @@ pub returns-in-Ok : goal.returns-in-Ok
 returns-in-Ok c = rw c.in-Ok.is (text refl)
 
 pub returns-in-Err : goal.returns-in-Err
-returns-in-Err c = rw c.in-Err.is (line c.put_refusal.ensures (λ l. refusal_whole _ c.put_refusal.ensures (search rules) (search rules) l))
+returns-in-Err c = rw c.in-Err.is (line c.put_refusal.ensures (λ l. refusal_whole _ c.put_refusal.ensures (search rules) (search rules) (search rules) l))

@@ -14,4 +14,4 @@ pub shape_of-room-in-Err : goal.shape_of-room-in-Err
 shape_of-room-in-Err c = wrote_long c.put_refusal.ensures
 
 pub returns-in-Err : goal.returns-in-Err
-returns-in-Err c = refusal_told _ _ c.in-Err.is c.put_refusal.ensures (search rules) (search rules)
+returns-in-Err c = refusal_told _ _ c.in-Err.is c.put_refusal.ensures (search rules) (search rules) (search rules)
