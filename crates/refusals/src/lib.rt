@@ -33,7 +33,7 @@ impl From<Reason> for u8 {
 }
 
 // Its number in the table of refusals; the line it speaks of, 0 for none; and the place in that line,
-// counted from 1, 0 for none.
+// counted from 1, 0 for none. Not a `Reason`, of which there are thirteen: any number can be printed.
 #[derive(Clone, Copy)]
 pub struct Refusal {
     pub number: u8,
